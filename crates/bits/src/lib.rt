@@ -1,0 +1,88 @@
+// A cursor over bit fields in a slice of bytes, the most significant bit first.
+//
+// A field may run over the end of the slice: the bits there are 0.
+ghost use mathlib.Core.Path.{_≡_};
+ghost use Prim.Native.Nat.{_+_, _*_, _<_, _≤_, _^_};
+ghost use lib.ListN.{getD};
+ghost use Rattle.bits.specs.Field.{fieldAt, twosComplement, Taken, TakenSigned};
+
+// A position in a string of bits, counted from the first byte's highest bit.
+pub struct Cursor {
+    pub at: usize,
+}
+
+// An unsigned field, and the cursor behind it.
+pub struct Field {
+    pub value: u32,
+    pub next: Cursor,
+}
+
+// A signed field, and the cursor behind it.
+pub struct SignedField {
+    pub value: i64,
+    pub next: Cursor,
+}
+
+impl Cursor {
+    // The cursor at the first bit.
+    pub fn new() -> Cursor
+        ensures { λ r. ⌜ r .at ≡ 0 ⌝ }
+    {
+        Cursor { at: 0 }
+    }
+
+    // The unsigned field of `width` bits at the cursor. Four bytes hold any 25 bits.
+    pub fn take(mut self, s: &[u8], width: usize) -> Field
+        requires { ⌜ (1 ≤ width) × (width ≤ 25) × (self .at + width < 2 ^ 64) ⌝ }
+        ensures { λ r. ⌜ Taken (now (s .entry)) self width r ⌝ }
+    {
+        let at = self.at;
+        let word = word_at(s, at / 8);
+        let value = (word >> (32 - at % 8 - width)) % (1u32 << width);
+        self.at = at + width;
+        Field { value, next: self }
+    }
+
+    // The signed field of `width` bits at the cursor.
+    pub fn take_signed(mut self, s: &[u8], width: usize) -> SignedField
+        requires { ⌜ (1 ≤ width) × (width ≤ 25) × (self .at + width < 2 ^ 64) ⌝ }
+        ensures { λ r. ⌜ TakenSigned (now (s .entry)) self width r ⌝ }
+    {
+        let field = self.take(s, width);
+        self.at = self.at + width;
+        SignedField {
+            value: sign_extend(field.value, width),
+            next: self,
+        }
+    }
+}
+
+// The four bytes from byte i on, as one number.
+fn word_at(s: &[u8], i: usize) -> u32
+    requires { ⌜ i + 4 < 2 ^ 64 ⌝ }
+    ensures { λ r. ⌜ r ≡ fieldAt (now (s .entry)) (i * 8) 32 ⌝ }
+{
+    let high = byte_at(s, i) * 256 + byte_at(s, i + 1);
+    let low = byte_at(s, i + 2) * 256 + byte_at(s, i + 3);
+    high * 65536 + low
+}
+
+// Byte i, or 0 past the end.
+fn byte_at(s: &[u8], i: usize) -> u32
+    ensures { λ r. ⌜ (r ≡ getD (now (s .entry)) i 0) × (r < 256) ⌝ }
+{
+    if i < s.len() { s[i] as u32 } else { 0 }
+}
+
+// The number that `width` bits stand for as two's complement.
+fn sign_extend(n: u32, width: usize) -> i64
+    requires { ⌜ (1 ≤ width) × (width ≤ 25) × (n < 2 ^ width) ⌝ }
+    ensures { λ r. ⌜ r ≡ twosComplement width n ⌝ }
+{
+    let half = 1u32 << (width - 1);
+    if n < half {
+        n as i64
+    } else {
+        n as i64 - (half + half) as i64
+    }
+}

@@ -1,0 +1,46 @@
+-- `frame::read_header` meets its contract: each field starts where the one before it ends. Assumes nothing.
+use borrow.Author.Needs.{needs}
+use mathlib.Core.Path.{ap, _∙_}
+use Prim.Native.Nat.{ℕ}
+use native.Mathlib.Omega.{arith}
+use lib.IntN.{pos}
+use mir.Syntax.{w64}
+use mir.Facts.{toZ-pos}
+use Rattle.bits.proofs.Fields.{taken-value}
+use Rattle.frame.specs.Fields.{cellsOf, positionOf, headerOf}
+use Rattle.frame.specs.Layout.{cellsAt, edgeAt, originAt, countAt}
+use Rattle.frame.proofs.read_header.Statement.{statement}
+use Rattle.frame.proofs.read_header.Tie as tie
+
+returns : tie.Need-returns
+unfolding headerOf
+returns c =
+    let count = c .before .before .before .before in
+    let origin = count .before .before in
+    let edge = origin .before .before in
+    let cells = edge .before .before in
+    let version = cells .before .before in
+    let start = version .before .before .before in
+    let s = start .args .file .now in
+    let l = start .args .layout in
+    λ i. record {
+      version = taken-value (version .take .ensures) 0 (omega arith) i;
+      cells = (cells .take-cells .ensures .value ∙ ap (cellsOf s) {y = cellsAt} (omega arith)) i;
+      edge = (toZ-pos w64 (omega (arith, c .before .struct-known .given)) ∙ ap pos (taken-value (edge .take2 .ensures) edgeAt (omega arith))) i;
+      origin = (origin .take-position .ensures .value ∙ ap (λ (p : ℕ). positionOf s p (l .coordinate)) {y = originAt l} (omega arith)) i;
+      count = taken-value (count .take3 .ensures) (countAt l) (omega arith) i;
+    }
+
+pub read-header-spec : {M : Type 1} → statement M
+read-header-spec =
+    tie.close
+    (tie.spec
+    (λ c κs. search needs)
+    (λ c κs. search needs)
+    (λ c κs. search needs)
+    (λ c κs. search needs)
+    (λ c κs. search needs)
+    (λ c κs. search needs)
+    (λ c. search needs)
+    (λ c. search needs)
+    returns)

@@ -1,0 +1,14 @@
+-- `frame::read_kind` meets its contract. Assumes nothing.
+use borrow.Author.Needs.{needs}
+use Rattle.bits.proofs.Fields.{taken-value}
+use Rattle.frame.specs.Fields.{kindOf}
+use Rattle.frame.specs.Layout.{kindAt}
+use Rattle.frame.proofs.read_kind.Statement.{statement}
+use Rattle.frame.proofs.read_kind.Tie as tie
+
+returns : tie.Need-returns
+unfolding kindOf
+returns c = taken-value (c .take .ensures) kindAt (c .before .new .ensures)
+
+pub read-kind-spec : {M : Type 1} → statement M
+read-kind-spec = tie.close (tie.spec (λ c κs. search needs) (λ c κs. search needs) returns)

@@ -1,0 +1,4 @@
+pub mod Limit
+pub mod Layout
+pub mod Fields
+pub mod Questions

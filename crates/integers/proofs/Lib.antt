@@ -1,0 +1,20 @@
+-- The theory of integers, in the order in which a reader needs it.
+-- An integer as two naturals, which `omega` reads; computed tests of order.
+pub mod Omega
+-- Ring laws and order laws.
+pub mod Laws
+-- Integer expressions as data.
+pub mod Expr
+-- Equations of expressions: the ring solver.
+pub mod Ring
+-- Inequalities of expressions, by certificate and by `omega`.
+pub mod Certificates
+pub mod OmegaExpr
+-- Bounds on the size of a number, which compose.
+pub mod Bounds
+-- What signed code asks of a proof: operations, casts, quotients.
+pub mod Machine
+pub mod Casts
+pub mod Quotients
+-- The lesser and the greater of two numbers.
+pub mod MinMax
