@@ -1,0 +1,86 @@
+// The map of a grid's cells (an occupancy grid), one bit a cell, in bytes that the caller lends.
+ghost use mathlib.Core.Path.{_≡_};
+ghost use mathlib.Core.List.{_++_};
+ghost use Prim.Native.Nat.{_+_, _*_, _/_, _<_, _≤_, _^_};
+ghost use lib.ListN.{length, drop, replicate};
+ghost use Rattle.grid.specs.Cells.{cellNumber};
+ghost use Rattle.grid.specs.Map.{mapLength, isFilled, withFilled, countBelow};
+
+// The number of cell (i, j, k) in a grid with nx × ny cells in a layer.
+pub fn cell_number(nx: usize, ny: usize, i: usize, j: usize, k: usize) -> usize
+    requires { ⌜ (nx ≤ 64) × (ny ≤ 64) × (i < 64) × (j < 64) × (k < 64) ⌝ }
+    ensures { λ r. ⌜ r ≡ cellNumber nx ny i j k ⌝ }
+{
+    let row = j + ny * k;
+    i + nx * row
+}
+
+// How many bytes the map of so many cells takes.
+pub fn map_length(cells: usize) -> usize
+    requires { ⌜ cells ≤ 262144 ⌝ }
+    ensures { λ r. ⌜ r ≡ mapLength cells ⌝ }
+{
+    (cells + 7) / 8
+}
+
+// Whether cell n is filled.
+pub fn is_filled(map: &[u8], n: usize) -> bool
+    requires { ⌜ n < 8 * length (now map) ⌝ }
+    ensures { λ r. ⌜ r ≡ isFilled (now (map .entry)) n ⌝ }
+{
+    let byte = map[n / 8];
+    (byte >> (7 - n % 8)) % 2 == 1
+}
+
+// Fills cell n.
+pub fn fill_cell(map: &mut [u8], n: usize)
+    requires { ⌜ n < 8 * length (now map) ⌝ }
+    ensures { λ _. ⌜ now (map .exit) ≡ withFilled (now (map .entry)) n ⌝ }
+{
+    let q = n / 8;
+    let byte = map[q];
+    map[q] = byte | (1u8 << (7 - n % 8));
+}
+
+// Empties every cell of the first len bytes.
+pub fn clear(map: &mut [u8], len: usize)
+    requires { ⌜ len ≤ length (now map) ⌝ }
+    ensures { λ _. ⌜ now (map .exit) ≡ replicate len 0 ++ drop len (now (map .entry)) ⌝ }
+{
+    let mut i = 0;
+    while i < len {
+        map[i] = 0;
+        i += 1;
+    }
+}
+
+// How many of the first `cells` cells are filled: whole bytes at once, then the cells of the last byte.
+pub fn count(map: &[u8], cells: usize) -> usize
+    requires { ⌜ cells ≤ 8 * length (now map) ⌝ }
+    ensures { λ r. ⌜ r ≡ countBelow (isFilled (now (map .entry))) cells ⌝ }
+{
+    let whole = cells / 8;
+    let mut sum = count_bytes(map, whole);
+    let mut n = whole * 8;
+    while n < cells {
+        if is_filled(map, n) {
+            sum += 1;
+        }
+        n += 1;
+    }
+    sum
+}
+
+// How many cells of the first `len` bytes are filled.
+fn count_bytes(map: &[u8], len: usize) -> usize
+    requires { ⌜ (len ≤ length (now map)) × (len * 8 < 2 ^ 64) ⌝ }
+    ensures { λ r. ⌜ (r ≡ countBelow (isFilled (now (map .entry))) (len * 8)) × (r ≤ len * 8) ⌝ }
+{
+    let mut sum: usize = 0;
+    let mut i = 0;
+    while i < len {
+        sum += u8::count_ones(map[i]) as usize;
+        i += 1;
+    }
+    sum
+}
