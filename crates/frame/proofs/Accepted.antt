@@ -1,5 +1,6 @@
 -- What holds of an accepted file.
 --     checked-by     the check's answer, by its two parts
+--     questions-broken, -passed   what the answer says of the questions
 --     accepted       questions 1 to 7 as facts, and the ranges of the header's values
 --     triangle-range the ranges of a record's corners
 --     map-most       the length of the map
@@ -22,14 +23,15 @@ use Rattle.bits.proofs.Fields.{field-lt}
 use Rattle.bits.proofs.Signs.{signed-range}
 use Rattle.frame.specs.declared.Layout.{Layout}
 use Rattle.frame.specs.declared.Header.{Header}
+use Rattle.frame.specs.declared.Limit.{Limit}
 use Rattle.frame.specs.declared.Position.{Position}
 use Rattle.frame.specs.declared.Triangle.{Triangle}
 use Rattle.frame.specs.declared.Verdict.{Verdict}
 use Rattle.frame.specs.declared.Verdict.the-variants.{Passed, Broken}
-use Rattle.frame.specs.declared.Checked.the-variants.{Accepted}
+use Rattle.frame.specs.declared.Checked.the-variants.{Accepted, Refused}
 use Rattle.frame.specs.Layout.{version1, recordStart, cellsBits, edgeAt, countAt, countBits, cornerAt}
 use Rattle.frame.specs.Fields.{headerOf, reservedOf, kindOf, positionOf, triangleOf, fromRecord}
-use Rattle.frame.specs.Questions.{firstBroken, ofEach, headerQuestions, kindQuestion, decided, checked, axisFits, extentFits}
+use Rattle.frame.specs.Questions.{firstBroken, ofEach, headerQuestions, fileQuestions, kindQuestion, decided, checked, axisFits, extentFits}
 use Rattle.frame.proofs.Asking.{passed-head, andThen, both-passed, first-append, each-passed}
 
 both-true : (a b : Bool) → a && b ≡ true → (a ≡ true) × (b ≡ true)
@@ -70,6 +72,19 @@ header-passed l h s p =
 decided-accepted : (v : Verdict) (h h′ : Header) → decided v h ≡ Accepted h′ → (v ≡ Passed) × (h ≡ h′)
 decided-accepted Passed h h′ e = (refl, cc)
 decided-accepted (Broken l) h h′ e = let z : _≡_ {A = ℕ} 0 1 = cc in absurd (omega arith)
+
+-- The answer of the check says what the questions say.
+pub questions-broken : (s : List ℕ) (l : Limit) → checked s ≡ Refused l → firstBroken (fileQuestions version1 (headerOf version1 s) s) ≡ Broken l
+unfolding checked
+questions-broken s l e = decided-refused (firstBroken (fileQuestions version1 (headerOf version1 s) s)) e
+  where
+    decided-refused : (v : Verdict) → decided v (headerOf version1 s) ≡ Refused l → v ≡ Broken l
+    decided-refused Passed q = let z : _≡_ {A = ℕ} 0 1 = cc in absurd (omega arith)
+    decided-refused (Broken k) q = cc
+
+pub questions-passed : (s : List ℕ) (h : Header) → checked s ≡ Accepted h → firstBroken (fileQuestions version1 (headerOf version1 s) s) ≡ Passed
+unfolding checked
+questions-passed s h e = decided-accepted (firstBroken (fileQuestions version1 (headerOf version1 s) s)) (headerOf version1 s) h e .0
 
 -- ---- the ranges of what a file of version 1 holds
 pub record CoordinateRange (z : ℤ) : Type 0 where

@@ -1,7 +1,7 @@
 -- The limits that an input may break. Definitions only.
 use Prim.Native.Nat.{ℕ}
 use Rattle.frame.specs.declared.Limit.{Limit}
-use Rattle.frame.specs.declared.Limit.the-variants.{ShortHeader, Version, ZeroEdge, ReservedBits, Extent, FileLength, UnusedKind}
+use Rattle.frame.specs.declared.Limit.the-variants.{ShortHeader, Version, ZeroEdge, ReservedBits, Extent, FileLength, UnusedKind, ShortMap}
 use Rattle.frame.specs.declared.Refusal.{Refusal}
 
 abbrev pub numbered : ℕ → ℕ → Refusal
@@ -16,3 +16,4 @@ refusalOf ReservedBits = numbered 4 0
 refusalOf Extent = numbered 5 0
 refusalOf FileLength = numbered 6 0
 refusalOf (UnusedKind i) = numbered 7 i
+refusalOf ShortMap = numbered 8 0

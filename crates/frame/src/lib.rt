@@ -18,6 +18,7 @@ pub enum Limit {
     Extent,
     FileLength,
     UnusedKind(usize),
+    ShortMap,
 }
 
 // What a refused call says: the number of the first limit broken, and the place.
@@ -59,6 +60,10 @@ impl Limit {
             Limit::UnusedKind(i) => Refusal {
                 number: 7,
                 place: i,
+            },
+            Limit::ShortMap => Refusal {
+                number: 8,
+                place: 0,
             },
         }
     }

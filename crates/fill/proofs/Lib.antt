@@ -1,0 +1,5 @@
+mod Blocks
+mod Ways
+mod Triangles
+mod Ready
+mod Answers

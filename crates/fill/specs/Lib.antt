@@ -1,0 +1,2 @@
+pub mod Steel
+pub mod Block
