@@ -1,5 +1,4 @@
 -- `overlap::axis_range` meets its contract: the least and the greatest of three, handed on.
-use borrow.Author.Needs.{needs}
 use mathlib.Core.List.{List, [], _∷_}
 use mathlib.Core.Path.{_≡_, ap₂, _∙_}
 use Prim.Native.Nat.{ℕ}
@@ -65,10 +64,10 @@ pub axis-range-spec : {M : Type 1} → statement M
 axis-range-spec =
     tie.close
     (tie.spec
-    (λ c κs. search needs)
-    (λ c κs. search needs)
-    (λ c κs. search needs)
-    (λ c κs. search needs)
+    (λ c κs. tt)
+    (λ c κs. tt)
+    (λ c κs. tt)
+    (λ c κs. tt)
     (λ c κs.
     let s = c .before .before .before .before in (
       bounded (σ c) es rangeBounds rangeBounds tt (ins c),

@@ -1,17 +1,17 @@
 -- `overlap::cell_range` meets its contract: two quotients that are rounded down, cut to the axis's cells (`Ranges`).
-use borrow.Author.Needs.{needs}
 use mathlib.Core.List.{List, [], _∷_}
 use mathlib.Core.Path.{_≡_, sym, ap, ap₂, _∙_}
 use Prim.Native.Nat.{_^_}
 use lib.Dec.{lit<}
 use lib.IntN.{ℤ, pos, negℤ, _+ℤ_, _-ℤ_}
-use lib.Signed.{_≤ℤ_}
+use lib.Signed.{_≤ℤ_, _<ℤ_}
 use mir.Syntax.{w32, w64}
+use mir.Val.{toZ, ofZ}
 use Rattle.integers.specs.Within.{Within}
 use Rattle.integers.specs.Order.{minℤ, maxℤ, Floor}
 use Rattle.integers.proofs.Bounds.{within-fits, fits-within}
 use Rattle.integers.proofs.Expr.{Expr, var, num, neg, _⊕_, _⊖_, nth}
-use Rattle.integers.proofs.Machine.{back, asks, run, bound, learnt}
+use Rattle.integers.proofs.Machine.{back, asks, run, bound, learnt, asked}
 use Rattle.integers.proofs.MinMax.{≤-max-left, ≤-min}
 use Rattle.integers.proofs.Quotients.{floor-fits}
 use Rattle.overlap.specs.Bounds.{rangeBounds}
@@ -23,6 +23,9 @@ abbrev ρ : tie.Start → List ℤ
 ρ c = let a = c .args in a .least ∷ a .greatest ∷ a .origin ∷ a .edge ∷ []
 
 -- ---- the quotients
+divisor : (s : tie.Start) → pos 0 <ℤ toZ w64 (ofZ w64 (s .args .edge))
+divisor s = asked (ρ s) (λ l. pos 0 <ℤ nth l 0) (var 3 ∷ []) rangeBounds tt (s .pre .0) (s .pre .1)
+
 abbrev low : Expr
 low = var 2 ⊕ var 3 ⊖ var 0
 
@@ -106,18 +109,18 @@ pub cell-range-spec : {M : Type 1} → statement M
 cell-range-spec =
     tie.close
     (tie.spec
-    (λ c κs. search needs)
+    (λ c κs. c .pre .2)
     (λ c. let s = c .before in asks (ρ s) low rangeBounds tt (s .pre .0) .0 .2)
     (λ c. let s = c .before in asks (ρ s) low rangeBounds tt (s .pre .0) .2)
-    (λ c κs. search needs)
+    (λ c κs. divisor (c .before))
     (λ c. let s = c .before .before in asks (ρ s) high rangeBounds tt (s .pre .0) .2)
-    (λ c κs. search needs)
+    (λ c κs. divisor (c .before .before))
     (λ c. asks (c .floor-div2 .result ∷ []) (var 0 ⊕ num 1) (2 ^ 31 ∷ []) tt (last-within c, tt) .2)
-    (λ c κs. search needs)
-    (λ c κs. search needs)
+    (λ c κs. tt)
+    (λ c κs. tt)
     (λ c. let d = c .before .before .before in asks (d .floor-div .result ∷ []) (neg (var 0)) (2 ^ 31 ∷ []) tt (before-within d, tt) .1)
-    (λ c κs. search needs)
-    (λ c κs. search needs)
+    (λ c κs. tt)
+    (λ c κs. tt)
     (λ c κs. rw (back w64 (c .min2 .ok)) (first-nn c))
     (λ c κs. let e = c .before .before .before in rw (back w64 (e .max .ok)) (end-nn e))
     returns)

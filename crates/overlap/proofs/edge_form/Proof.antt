@@ -1,5 +1,4 @@
 -- `overlap::edge_form` meets its contract. Each value is an expression over the parameters and what the calls gave.
-use borrow.Author.Needs.{needs}
 use mathlib.Core.List.{List, [], _∷_}
 use mathlib.Core.Path.{_≡_, _∙_, ap, ap₂}
 use Prim.Native.Nat.{ℕ, _^_}
@@ -90,9 +89,9 @@ edge-form-spec =
     (λ c κs. bounded (ρ c) (neg (var 1) ∷ []) edgeBounds (2 ^ 62 ∷ []) tt (c .pre) .0)
     (λ c κs. bounded (ρ (c .before)) (var 0 ∷ []) edgeBounds (2 ^ 62 ∷ []) tt (c .before .pre) .0)
     (λ c. asks (ρm c) (var 6 ⊗ var 0) bm tt (ins-m c) .2)
-    (λ c κs. search needs)
+    (λ c κs. tt)
     (λ c. asks (ρm (c .before)) (var 6 ⊗ var 1) bm tt (ins-m (c .before)) .2)
-    (λ c κs. search needs)
+    (λ c κs. tt)
     (λ c. needed c .0 .2)
     (λ c. needed c .1 .0 .2)
     (λ c. needed c .1 .1 .2)

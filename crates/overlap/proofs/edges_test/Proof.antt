@@ -1,12 +1,12 @@
 -- `overlap::edges_test` meets its contract: the edges in turn, up to the first test that fails.
-use borrow.Author.Needs.{needs}
 use borrow.Author.Tests.{not-true, not-false}
 use mathlib.Core.List.{List, [], _∷_}
 use mathlib.Core.Path.{_≡_, sym, _∙_}
 use mathlib.Core.Bool.{Bool, true}
 use lib.IntN.{ℤ}
+use Rattle.integers.specs.Within.{Withins}
 use Rattle.integers.proofs.Expr.{Expr, var, nth}
-use Rattle.integers.proofs.Machine.{learnt, machs, evals}
+use Rattle.integers.proofs.Machine.{bounded, learnt, machs, evals}
 use Rattle.overlap.specs.declared.EdgeForm.{EdgeForm}
 use Rattle.overlap.specs.Bounds.{coordinates}
 use Rattle.overlap.specs.Block.{edgeTest}
@@ -19,7 +19,10 @@ abbrev ρ : tie.Start → List ℤ
 abbrev es : List Expr
 es = var 0 ∷ var 1 ∷ var 2 ∷ var 3 ∷ []
 
--- what `edge_test` ensures
+-- what `edge_test` requires of the block, and what it ensures
+required : (s : tie.Start) → Withins (coordinates 4 []) (machs (ρ s) es)
+required s = bounded (ρ s) es (coordinates 4 []) (coordinates 4 []) tt (s .pre .1)
+
 abbrev Tested : Bool → EdgeForm → List ℤ → Type 0
 Tested r f l = r ≡ edgeTest f (nth l 0) (nth l 1) (nth l 2) (nth l 3)
 
@@ -63,9 +66,9 @@ pub edges-test-spec : {M : Type 1} → statement M
 edges-test-spec =
     tie.close
     (tie.spec
-    (λ c κs. search needs)
+    (λ c κs. let s = c .before in (s .pre .0 .e0, required s))
     returns
-    (λ c κs. search needs)
+    (λ c κs. let s = at0 (c .before .before) in (s .pre .0 .e1, required s))
     returns-2
-    (λ c κs. search needs)
+    (λ c κs. let s = at0 (at1 (c .before .before)) in (s .pre .0 .e2, required s))
     returns-3)

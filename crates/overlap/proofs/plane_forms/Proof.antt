@@ -1,5 +1,4 @@
 -- `overlap::plane_forms` meets its contract. Each value is an expression over the parameters and what the calls gave.
-use borrow.Author.Needs.{needs}
 use mathlib.Core.List.{List, [], _∷_}
 use mathlib.Core.Path.{_≡_, _∙_, ap}
 use Prim.Native.Nat.{ℕ, _^_}
@@ -129,15 +128,15 @@ plane-forms-spec =
     (λ c. asks (ρ c) dx planeBounds tt (c .pre) .2)
     (λ c. asks (ρ c) dy planeBounds tt (c .pre) .2)
     (λ c. asks (ρ c) dz planeBounds tt (c .pre) .2)
-    (λ c κs. search needs)
-    (λ c κs. search needs)
-    (λ c κs. search needs)
+    (λ c κs. tt)
+    (λ c κs. tt)
+    (λ c κs. tt)
     (λ c. up-needed c .0 .0 .2)
     (λ c. up-needed c .0 .2)
     (λ c. up-needed c .2)
-    (λ c κs. search needs)
-    (λ c κs. search needs)
-    (λ c κs. search needs)
+    (λ c κs. tt)
+    (λ c κs. tt)
+    (λ c κs. tt)
     (λ c. down-needed c .0 .0 .2)
     (λ c. down-needed c .0 .2)
     (λ c. down-needed c .2)
