@@ -3,7 +3,7 @@
 // A field may run over the end of the slice: the bits there are 0.
 ghost use mathlib.Core.Path.{_≡_};
 ghost use Prim.Native.Nat.{_+_, _*_, _<_, _≤_, _^_};
-ghost use lib.ListN.{getD};
+ghost use lib.ListN.{getD, length};
 ghost use Rattle.bits.specs.Field.{fieldAt, twosComplement, Taken, TakenSigned};
 
 // A position in a string of bits, counted from the first byte's highest bit.
@@ -57,21 +57,42 @@ impl Cursor {
     }
 }
 
-// The four bytes from byte i on, as one number.
+// The four bytes from byte i on, as one number. Near the end of the slice they are taken one by one.
 fn word_at(s: &[u8], i: usize) -> u32
     requires { ⌜ i + 4 < 2 ^ 64 ⌝ }
     ensures { λ r. ⌜ r ≡ fieldAt (now (s .entry)) (i * 8) 32 ⌝ }
 {
+    if i + 3 < s.len() {
+        return whole_word(s, i);
+    }
     let high = byte_at(s, i) * 256 + byte_at(s, i + 1);
     let low = byte_at(s, i + 2) * 256 + byte_at(s, i + 3);
     high * 65536 + low
+}
+
+// Four bytes that are there, as one number: one look at the length serves all four.
+fn whole_word(s: &[u8], i: usize) -> u32
+    requires { ⌜ i + 3 < length (now s) ⌝ }
+    ensures { λ r. ⌜ r ≡ fieldAt (now (s .entry)) (i * 8) 32 ⌝ }
+{
+    let high = byte(s, i) * 256 + byte(s, i + 1);
+    let low = byte(s, i + 2) * 256 + byte(s, i + 3);
+    high * 65536 + low
+}
+
+// Byte i, which is there.
+fn byte(s: &[u8], i: usize) -> u32
+    requires { ⌜ i < length (now s) ⌝ }
+    ensures { λ r. ⌜ (r ≡ getD (now (s .entry)) i 0) × (r < 256) ⌝ }
+{
+    s[i] as u32
 }
 
 // Byte i, or 0 past the end.
 fn byte_at(s: &[u8], i: usize) -> u32
     ensures { λ r. ⌜ (r ≡ getD (now (s .entry)) i 0) × (r < 256) ⌝ }
 {
-    if i < s.len() { s[i] as u32 } else { 0 }
+    if i < s.len() { byte(s, i) } else { 0 }
 }
 
 // The number that `width` bits stand for as two's complement.

@@ -5,15 +5,19 @@ use Rattle.bits.proofs.Fields.{word-field}
 use Rattle.bits.proofs.word_at.Statement.{statement}
 use Rattle.bits.proofs.word_at.Tie as tie
 
-returns : tie.Need-returns
-returns c =
-    let start = c .before .before .before .before .before in
-    omega (arith, word-field (start .args .s .now) (λ j. omega (arith, c .before .before .before .before .shared-slice-known .given j)) (start .args .i))
+near-end : tie.Need-returns-2
+near-end c =
+    let known = c .before .before .before .before .before in
+    let start = known .before in
+    omega (arith, word-field (start .args .s .now) (λ j. omega (arith, known .shared-slice-known .given j)) (start .args .i))
 
 pub word-at-spec : {M : Type 1} → statement M
 word-at-spec =
     tie.close
     (tie.spec
+    (λ c. search needs)
+    (λ c κs. search needs)
+    (λ c. search needs)
     (λ c κs. search needs)
     (λ c. search needs)
     (λ c. search needs)
@@ -27,4 +31,4 @@ word-at-spec =
     (λ c. search needs)
     (λ c. search needs)
     (λ c. search needs)
-    returns)
+    near-end)
