@@ -1,7 +1,7 @@
 -- The limits that an input may break. Definitions only.
 use Prim.Native.Nat.{ℕ}
 use Rattle.frame.specs.declared.Limit.{Limit}
-use Rattle.frame.specs.declared.Limit.the-variants.{ShortHeader, Version, ZeroEdge, ReservedBits, Extent, FileLength, UnusedKind, ShortMap}
+use Rattle.frame.specs.declared.Limit.the-variants.{ShortHeader, Version, ZeroEdge, ReservedBits, Extent, FileLength, UnusedKind, ShortMap, PointCount, PointOutside}
 use Rattle.frame.specs.declared.Refusal.{Refusal}
 
 abbrev pub numbered : ℕ → ℕ → Refusal
@@ -17,3 +17,5 @@ refusalOf Extent = numbered 5 0
 refusalOf FileLength = numbered 6 0
 refusalOf (UnusedKind i) = numbered 7 i
 refusalOf ShortMap = numbered 8 0
+refusalOf PointCount = numbered 9 0
+refusalOf (PointOutside m) = numbered 10 m

@@ -19,6 +19,8 @@ pub enum Limit {
     FileLength,
     UnusedKind(usize),
     ShortMap,
+    PointCount,
+    PointOutside(usize),
 }
 
 // What a refused call says: the number of the first limit broken, and the place.
@@ -64,6 +66,14 @@ impl Limit {
             Limit::ShortMap => Refusal {
                 number: 8,
                 place: 0,
+            },
+            Limit::PointCount => Refusal {
+                number: 9,
+                place: 0,
+            },
+            Limit::PointOutside(m) => Refusal {
+                number: 10,
+                place: m,
             },
         }
     }

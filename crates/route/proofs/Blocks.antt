@@ -1,0 +1,171 @@
+-- The search of a block by layers, rows and cells.
+--     Layers, Rows, Cells    no cell that is looked for is before layer k; before row j of layer k; before cell i of row j
+--     no-layer, no-row       a layer or a row that a form rules out has none
+--     found-none, found-at   so the search finds the lowest cell filled and touched
+-- Assumes nothing.
+use mathlib.Core.Bool.{Bool, true, false, _&&_, and-eq-true-iff, false≢true}
+use mathlib.Core.List.{List, [], _∷_}
+use mathlib.Core.Logic.{_⊎_, inl, inr, ⊎-elim}
+use mathlib.Core.Path.{_≡_, refl, sym, ap, _∙_}
+use Prim.Native.Nat.{ℕ, suc, _+_, _-_, _*_, _<_, _≤_}
+use native.Mathlib.Decide.{decLt}
+use native.Mathlib.Nat.{mul-le-mul-left, mul-suc}
+use native.Mathlib.Omega.{arith}
+use borrow.Author.Tests.{lt-ltb, le-leb, leb-true, ltb-true}
+use lib.Dec.{leb, ltb}
+use lib.IntN.{ℤ, pos, _+ℤ_, _*ℤ_}
+use lib.Signed.{_≤ℤ_, _<ℤ_}
+use Rattle.integers.proofs.Certificates.{nn, le, _⊠_, by-le}
+use Rattle.integers.proofs.Expr.{var, _⊕_, _⊗_}
+use Rattle.integers.proofs.Laws.{<→≤, pos-le}
+use Rattle.overlap.specs.declared.CellRange.{CellRange}
+use Rattle.overlap.specs.declared.Setup.{Setup}
+use Rattle.overlap.specs.Block.{InBlock, blockTest}
+use Rattle.overlap.specs.Geometry.{Triangle}
+use Rattle.overlap.specs.Grid.{Grid, cellCorner}
+use Rattle.overlap.specs.Range.{inRange, PicksBox}
+use Rattle.overlap.specs.Rule.{overlaps}
+use Rattle.overlap.specs.Setup.{setupOf}
+use Rattle.overlap.proofs.Forms.{overlaps-by-range, cell-block}
+use Rattle.grid.specs.Cells.{cellNumber, xOfCell, yOfCell, zOfCell}
+use Rattle.grid.specs.Map.{isFilled}
+use Rattle.grid.proofs.Numbers.{number-lt, number-of, x-of, y-of, z-of, x-lt, y-lt, z-lt}
+use Rattle.fill.specs.Steel.{fillsCell}
+use Rattle.route.specs.declared.Found.the-variants.{Cell, Nothing}
+use Rattle.route.specs.Route.{filledAndTouched, firstTouched, cellsOf}
+use Rattle.route.proofs.First.{none-below, first-at}
+
+-- ---- tests
+pub apart : {p : Bool} → p ≡ true → p ≡ false → ⊥
+apart t f = false≢true (sym f ∙ t)
+
+none : (p q : Bool) → (p ≡ true → q ≡ true → ⊥) → (p && q) ≡ false
+none true true f = absurd (f refl refl)
+none true false f = refl
+none false q f = refl
+
+-- ---- ranges
+abbrev In : CellRange → ℕ → Type 0
+In r i = (r .first ≤ i) × (i < r .end)
+
+in-range : (r : CellRange) (i : ℕ) → inRange r i ≡ true → In r i
+in-range r i e = let (a, b) = and-eq-true-iff (leb (r .first) i) (ltb i (r .end)) .0 e in (leb-true (r .first) i a, ltb-true i (r .end) b)
+
+range-in : (r : CellRange) (i : ℕ) → In r i → inRange r i ≡ true
+range-in r i h = rw (le-leb (r .first) i (h .0), lt-ltb i (r .end) (h .1))
+
+-- cells further along an axis begin further on
+further : (o e : ℤ) → pos 0 <ℤ e → {m n : ℕ} → m ≤ n → (o +ℤ pos m *ℤ e) ≤ℤ (o +ℤ pos n *ℤ e)
+further o e h {m} {n} l =
+    by-le (pos m ∷ pos n ∷ e ∷ o ∷ []) (var 3 ⊕ var 0 ⊗ var 2) (var 3 ⊕ var 1 ⊗ var 2) (nn (var 2) (<→≤ h) ⊠ le (var 0) (var 1) (pos-le l)) tt
+
+-- numbers of two digits are ordered as their high digits, and then as their low ones
+digits : (a x q i r : ℕ) → i < a → x + a * q ≤ i + a * r → (q < r) ⊎ ((q ≡ r) × (x ≤ i))
+digits a x q i r hi h = go (decLt q r) (decLt r q)
+  where
+    go : Dec (q < r) → Dec (r < q) → (q < r) ⊎ ((q ≡ r) × (x ≤ i))
+    go (yes l) g = inl l
+    go (no l) (yes g) = absurd (omega (arith, mul-le-mul-left a g, mul-suc a r))
+    go (no l) (no g) =
+        let e : q ≡ r = omega arith in
+        inr (e, omega (arith, ap (λ (t : ℕ). a * t) e))
+
+module _ (s : List ℕ) (g : Grid) (f : Setup) (x y z : CellRange) where
+  -- No form rules out cell (i, j, k).
+  abbrev cellTest : (i j k : ℕ) → Bool
+  cellTest i j k = blockTest f (cellCorner g i j k) (cellCorner g i j k)
+
+  -- Cell (i, j, k) of the block is none that is looked for.
+  abbrev No : (i j k : ℕ) → Type 0
+  No i j k = In x i → In y j → In z k → isFilled s (cellNumber (g .nx) (g .ny) i j k) ≡ true → cellTest i j k ≡ true → ⊥
+
+  abbrev pub Layers : ℕ → Type 0
+  Layers k = (c : ℕ) → c < k → (a b : ℕ) → No a b c
+
+  abbrev pub Rows : (k j : ℕ) → Type 0
+  Rows k j = (b : ℕ) → b < j → (a : ℕ) → No a b k
+
+  abbrev pub Cells : (k j i : ℕ) → Type 0
+  Cells k j i = (a : ℕ) → a < i → No a j k
+
+  -- a block of cells that a form rules out has no cell
+  module _ (positive : pos 0 <ℤ g .edge) {i0 i1 j0 j1 k0 k1 : ℕ} (never : blockTest f (cellCorner g i0 j0 k0) (cellCorner g i1 j1 k1) ≡ false) where
+    skipped : {i j k : ℕ} → (i0 ≤ i) × (i ≤ i1) → (j0 ≤ j) × (j ≤ j1) → (k0 ≤ k) × (k ≤ k1) → cellTest i j k ≡ true → ⊥
+    skipped {i} {j} {k} hi hj hk h =
+        let at : InBlock (cellCorner g i0 j0 k0) (cellCorner g i1 j1 k1) (cellCorner g i j k) = record {
+          x = (further (g .origin .x) (g .edge) positive (hi .0), further (g .origin .x) (g .edge) positive (hi .1));
+          y = (further (g .origin .y) (g .edge) positive (hj .0), further (g .origin .y) (g .edge) positive (hj .1));
+          z = (further (g .origin .z) (g .edge) positive (hk .0), further (g .origin .z) (g .edge) positive (hk .1));
+        } in
+        apart (cell-block at f h) never
+
+  module _ (positive : pos 0 <ℤ g .edge) where
+    pub no-layer : (k : ℕ) → blockTest f (cellCorner g (x .first) (y .first) k) (cellCorner g (x .end - 1) (y .end - 1) k) ≡ false → (a b : ℕ) → No a b k
+    no-layer k never a b ha hb hk filled h = skipped positive never (ha .0, omega arith) (hb .0, omega arith) (omega arith, omega arith) h
+
+    pub no-row : (j k : ℕ) → blockTest f (cellCorner g (x .first) j k) (cellCorner g (x .end - 1) j k) ≡ false → (a : ℕ) → No a j k
+    no-row j k never a ha hj hk filled h = skipped positive never (ha .0, omega arith) (omega arith, omega arith) (omega arith, omega arith) h
+
+  -- ---- a triangle with these forms and this box of cells
+  module _ (t : Triangle) (forms : f ≡ setupOf t (g .edge)) (picks : PicksBox t g (record { x = x; y = y; z = z }))
+      (some-x : 0 < g .nx) (some-y : 0 < g .ny) where
+    by-range : (i j k : ℕ) → i < g .nx → j < g .ny → k < g .nz
+        → overlaps t (cellCorner g i j k) (g .edge) ≡ (inRange x i && inRange y j && inRange z k && cellTest i j k)
+    by-range i j k hi hj hk = rw forms (overlaps-by-range t g picks i j k hi hj hk)
+
+    -- a cell that is touched lies in the box, and no form rules it out
+    touched : (n : ℕ) → n < cellsOf g → fillsCell g n t ≡ true
+        → let i = xOfCell (g .nx) n in let j = yOfCell (g .nx) (g .ny) n in let k = zOfCell (g .nx) (g .ny) n in
+        In x i × In y j × In z k × (cellTest i j k ≡ true)
+    touched n l e =
+        let i = xOfCell (g .nx) n in
+        let j = yOfCell (g .nx) (g .ny) n in
+        let k = zOfCell (g .nx) (g .ny) n in
+        let hk = z-lt (g .nx) (g .ny) (g .nz) n some-x some-y l in
+        let all = sym (by-range i j k (x-lt (g .nx) (g .ny) n some-x) (y-lt (g .nx) (g .ny) n some-y) hk) ∙ e in
+        let (box, test) = and-eq-true-iff (inRange x i && inRange y j && inRange z k) (cellTest i j k) .0 all in
+        let (xy, ez) = and-eq-true-iff (inRange x i && inRange y j) (inRange z k) .0 box in
+        let (ex, ey) = and-eq-true-iff (inRange x i) (inRange y j) .0 xy in
+        (in-range x i ex, in-range y j ey, in-range z k ez, test)
+
+    no-cell : (n : ℕ) → n < cellsOf g → No (xOfCell (g .nx) n) (yOfCell (g .nx) (g .ny) n) (zOfCell (g .nx) (g .ny) n)
+        → filledAndTouched (isFilled s) g t n ≡ false
+    no-cell n l f =
+        none (isFilled s n) (fillsCell g n t)
+        (λ e h. let w = touched n l h in f (w .0) (w .1) (w .2) (ap (isFilled s) (number-of (g .nx) (g .ny) n) ∙ e) (w .3))
+
+    pub found-none : (k : ℕ) → z .end ≤ k → Layers k → firstTouched (isFilled s) g t ≡ Nothing
+    unfolding firstTouched
+    found-none k far layers =
+        none-below (filledAndTouched (isFilled s) g t) (cellsOf g)
+        (λ n l. no-cell n l (λ hx hy hz. layers (zOfCell (g .nx) (g .ny) n) (omega arith) (xOfCell (g .nx) n) (yOfCell (g .nx) (g .ny) n) hx hy hz))
+
+    pub found-at : (i j k : ℕ) → In x i → In y j → In z k → isFilled s (cellNumber (g .nx) (g .ny) i j k) ≡ true → cellTest i j k ≡ true
+        → Layers k → Rows k j → Cells k j i → firstTouched (isFilled s) g t ≡ Cell (cellNumber (g .nx) (g .ny) i j k)
+    unfolding firstTouched
+    found-at i j k hx hy hz filled test layers rows cells =
+        first-at (filledAndTouched (isFilled s) g t) (cellNumber (g .nx) (g .ny) i j k) (cellsOf g) (number-lt (g .nx) (g .ny) (g .nz) i j k li lj lk)
+        (rw (x-of (g .nx) (g .ny) i j k li, y-of (g .nx) (g .ny) i j k li lj, z-of (g .nx) (g .ny) i j k li lj, filled, by-range i j k li lj lk, range-in x i hx, range-in y j hy, range-in z k hz, test))
+        (λ n l. no-cell n (omega (arith, number-lt (g .nx) (g .ny) (g .nz) i j k li lj lk)) (before (xOfCell (g .nx) n) (yOfCell (g .nx) (g .ny) n) (zOfCell (g .nx) (g .ny) n) (omega (arith, number-of (g .nx) (g .ny) n))))
+      where
+        li : i < g .nx
+        li = omega (arith, picks .x .within)
+
+        lj : j < g .ny
+        lj = omega (arith, picks .y .within)
+
+        lk : k < g .nz
+        lk = omega (arith, picks .z .within)
+
+        -- a cell of a lower number is in a layer before k, in a row before j of layer k, or before cell i of row j
+        before : (a b c : ℕ) → suc a + g .nx * (b + g .ny * c) ≤ i + g .nx * (j + g .ny * k) → No a b c
+        before a b c l =
+            ⊎-elim
+            (λ q. ⊎-elim (λ u. layers c u a b) (λ u. rw (u .0) (rows b (u .1) a)) (digits (g .ny) (suc b) c j k lj (omega arith)))
+            (λ q.
+            ⊎-elim (λ u. layers c u a b)
+            (λ u.
+            let e : b ≡ j = omega (arith, ap (λ (t : ℕ). g .ny * t) (u .0)) in
+            rw (u .0, e) (cells a (q .1)))
+            (digits (g .ny) b c j k lj (omega arith)))
+            (digits (g .nx) (suc a) (b + g .ny * c) i (j + g .ny * k) li l)

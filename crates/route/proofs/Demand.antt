@@ -1,0 +1,184 @@
+-- Demand 3: what the answer of a route test says about legs and triangles.
+--     demand-grid   over a grid, its triangles and the points of a route, for a map that holds the rule's cells
+--     demand-3      over a file, a map that an accepted fill with it left, and the numbers of a route
+-- Assumes nothing.
+use mathlib.Core.Bool.{Bool, true, false, _||_, and-eq-true-iff}
+use mathlib.Core.List.{List, [], _∷_, _++_}
+use mathlib.Core.Logic.{inl, inr}
+use mathlib.Core.Path.{_≡_, refl, sym, ap, _∙_, subst}
+use Prim.Native.Nat.{ℕ, _+_, _<_}
+use native.Mathlib.Omega.{arith}
+use borrow.Author.Tests.{lt-ltb}
+use lib.Dec.{T}
+use lib.IntN.{ℤ, pos}
+use lib.ListN.{length, drop}
+use lib.Signed.{_≤ℤ_}
+use Rattle.integers.proofs.Laws.{<→≤}
+use Rattle.frame.specs.declared.Verdict.{Verdict}
+use Rattle.frame.specs.declared.Verdict.the-variants.{Passed, Broken}
+use Rattle.frame.specs.Fields.{headerOf}
+use Rattle.frame.specs.Layout.{version1}
+use Rattle.frame.proofs.Accepted.{accepted}
+use Rattle.overlap.specs.Geometry.{Point, Triangle, leg, cube}
+use Rattle.overlap.specs.Grid.{Grid, cellCorner}
+use Rattle.overlap.specs.Rule.{overlaps}
+use Rattle.reach.specs.Reaches.{Reaches, LegReaches, CommonPoint, InsideGrid}
+use Rattle.reach.proofs.Theorem.{cell-rule}
+use Rattle.reach.proofs.Legs.{leg-rule}
+use Rattle.reach.proofs.Grid.{Proper, common-cell}
+use Rattle.grid.specs.Cells.{cellNumber}
+use Rattle.grid.specs.Map.{mapLength, isFilled, countBelow, mapOf}
+use Rattle.grid.proofs.Maps.{filled-map}
+use Rattle.grid.proofs.Numbers.{number-lt, x-of, y-of, z-of}
+use Rattle.fill.specs.declared.Filling.the-variants.{Filled}
+use Rattle.fill.specs.Steel.{gridAt, cellCount, steel, anyOf, fillsCell, filledBy, fillVerdict, fillAnswer, filling, fillBytes, filledBytes}
+use Rattle.route.specs.declared.RouteAnswer.the-variants.{Free, Blocked}
+use Rattle.route.specs.Route.{pointsOf, pointAt, legAt, legCount, cellsOf, filledAndTouched, firstTouched, onLeg, tested, routeAnswer}
+use Rattle.route.specs.Demand.{SomeOf, cornerOf, BothReach, Demand3, LeftByFill, DemandOf}
+use Rattle.route.proofs.Answers.{last-passed, answer-passed}
+use Rattle.route.proofs.Blocks.{apart}
+use Rattle.route.proofs.First.{none-below, below-none, found-has, legs-free, free-legs, blocked-leg}
+use Rattle.route.proofs.Ready.{ready, points-length, inside-grid}
+
+-- ---- tests as statements
+true-T : (b : Bool) → b ≡ true → T b
+true-T true e = tt
+true-T false e = absurd (apart e refl)
+
+T-true : (b : Bool) → T b → b ≡ true
+T-true true t = refl
+T-true false t = absurd t
+
+module _ {A : Type 0} (p : A → Bool) (P : A → Type 0) where
+  any-some : ((x : A) → p x ≡ true → P x) → (xs : List A) → anyOf p xs ≡ true → SomeOf P xs
+  unfolding anyOf
+  any-some f [] e = absurd (apart e refl)
+  any-some f (x ∷ xs) e = go (p x) refl e (any-some f xs)
+    where
+      go : (b : Bool) → p x ≡ b → (b || anyOf p xs) ≡ true → (anyOf p xs ≡ true → SomeOf P xs) → SomeOf P (x ∷ xs)
+      go true q h again = inl (f x q)
+      go false q h again = inr (again h)
+
+  some-any : ((x : A) → P x → p x ≡ true) → (xs : List A) → SomeOf P xs → anyOf p xs ≡ true
+  unfolding anyOf
+  some-any f (x ∷ xs) (inl h) = rw (f x h)
+  some-any f (x ∷ xs) (inr h) = rw (some-any f xs h) (or-true (p x))
+    where
+      or-true : (b : Bool) → (b || true) ≡ true
+      or-true true = refl
+      or-true false = refl
+
+-- ---- the rule is exactly "reaches", for a triangle and for a leg
+module _ (p : Point) (s : ℤ) (size : pos 0 ≤ℤ s) where
+  reaches : (t : Triangle) → overlaps t p s ≡ true → Reaches t p s
+  reaches t e = cell-rule t p s size .0 (true-T _ e)
+
+  reached : (t : Triangle) → Reaches t p s → overlaps t p s ≡ true
+  reached t r = T-true _ (cell-rule t p s size .1 r)
+
+  leg-reaches : (a b : Point) → overlaps (leg a b) p s ≡ true → LegReaches a b p s
+  leg-reaches a b e = leg-rule a b p (cube s) .1 (reaches (leg a b) e)
+
+  leg-reached : (a b : Point) → LegReaches a b p s → overlaps (leg a b) p s ≡ true
+  leg-reached a b r = reached (leg a b) (leg-rule a b p (cube s) .0 r)
+
+-- ---- a grid, its triangles and the points of a route
+module _ (g : Grid) (ts : List Triangle) (ps : List Point) (filled : ℕ → Bool) (proper : Proper g)
+    (points : (m : ℕ) → m < length ps → InsideGrid g (pointAt ps m))
+    (map : (n : ℕ) → n < cellsOf g → filled n ≡ filledBy g ts n) where
+  -- a cell is filled and touched by a leg exactly when the leg and some triangle both reach it
+  both-reach : (m n : ℕ) → m < legCount ps → n < cellsOf g → filledAndTouched filled g (legAt ps m) n ≡ true → BothReach g ts ps m n
+  both-reach m n lm ln e =
+      let (full, touched) = and-eq-true-iff (filled n) (fillsCell g n (legAt ps m)) .0 e in
+      record {
+        leg-in = lm;
+        cell-in = ln;
+        leg = leg-reaches (cornerOf g n) (g .edge) (proper .edge) (pointAt ps m) (pointAt ps (m + 1)) touched;
+        triangle = any-some (fillsCell g n) (λ t. Reaches t (cornerOf g n) (g .edge)) (reaches (cornerOf g n) (g .edge) (proper .edge)) ts (sym (map n ln) ∙ full);
+      }
+
+  both-reached : {m n : ℕ} → BothReach g ts ps m n → filledAndTouched filled g (legAt ps m) n ≡ true
+  both-reached {m} {n} b =
+      and-eq-true-iff (filled n) (fillsCell g n (legAt ps m)) .1 (
+        map n (b .cell-in) ∙ some-any (fillsCell g n) (λ t. Reaches t (cornerOf g n) (g .edge)) (reached (cornerOf g n) (g .edge) (proper .edge)) ts (b .triangle),
+        leg-reached (cornerOf g n) (g .edge) (proper .edge) (pointAt ps m) (pointAt ps (m + 1)) (b .leg),
+      )
+
+  -- (a)
+  free-none : tested filled g ps ≡ Free → (m n : ℕ) → BothReach g ts ps m n → ⊥
+  unfolding tested firstTouched
+  free-none e m n b =
+      apart (both-reached b)
+      (below-none (filledAndTouched filled g (legAt ps m)) (cellsOf g) (free-legs (onLeg filled g ps) (legCount ps) e m (b .leg-in)) n (b .cell-in))
+
+  none-free : ((m n : ℕ) → BothReach g ts ps m n → ⊥) → tested filled g ps ≡ Free
+  unfolding tested firstTouched
+  none-free never = legs-free (onLeg filled g ps) (legCount ps) (λ m lm. none-below (filledAndTouched filled g (legAt ps m)) (cellsOf g) (λ n ln. go m n lm ln (filledAndTouched filled g (legAt ps m) n) refl))
+    where
+      go : (m n : ℕ) → m < legCount ps → n < cellsOf g → (b : Bool) → filledAndTouched filled g (legAt ps m) n ≡ b → b ≡ false
+      go m n lm ln true e = absurd (never m n (both-reach m n lm ln e))
+      go m n lm ln false e = refl
+
+  -- (b): a point in common lies in a cell that both reach
+  common-reach : {m : ℕ} → m < legCount ps → ((n : ℕ) → BothReach g ts ps m n → ⊥) → (us : List Triangle)
+      → ((n : ℕ) → SomeOf (λ t. Reaches t (cornerOf g n) (g .edge)) us → SomeOf (λ t. Reaches t (cornerOf g n) (g .edge)) ts)
+      → SomeOf (λ t. CommonPoint (pointAt ps m) (pointAt ps (m + 1)) t) us → ⊥
+  common-reach {m} lm never (u ∷ us) among (inl p) =
+      let c = common-cell g (pointAt ps m) (pointAt ps (m + 1)) u proper (points m (omega arith)) (points (m + 1) (omega arith)) p in
+      let n = cellNumber (g .nx) (g .ny) (c .i) (c .j) (c .k) in
+      let at : cornerOf g n ≡ cellCorner g (c .i) (c .j) (c .k) = rw (x-of (g .nx) (g .ny) (c .i) (c .j) (c .k) (c .i-in), y-of (g .nx) (g .ny) (c .i) (c .j) (c .k) (c .i-in) (c .j-in), z-of (g .nx) (g .ny) (c .i) (c .j) (c .k) (c .i-in) (c .j-in)) in
+      never n (record {
+        leg-in = lm;
+        cell-in = number-lt (g .nx) (g .ny) (g .nz) (c .i) (c .j) (c .k) (c .i-in) (c .j-in) (c .k-in);
+        leg = subst (λ (q : Point). LegReaches (pointAt ps m) (pointAt ps (m + 1)) q (g .edge)) (sym at) (c .holds .0);
+        triangle = among n (inl (subst (λ (q : Point). Reaches u q (g .edge)) (sym at) (c .holds .1)));
+      })
+  common-reach lm never (u ∷ us) among (inr rest) = common-reach lm never us (λ n r. among n (inr r)) rest
+
+  -- (c)
+  blocked-both : (m n : ℕ) → tested filled g ps ≡ Blocked m n → BothReach g ts ps m n
+  unfolding tested firstTouched
+  blocked-both m n e =
+      let (lm, found) = blocked-leg (onLeg filled g ps) (legCount ps) m n e in
+      let (ln, hit) = found-has (filledAndTouched filled g (legAt ps m)) (cellsOf g) n found in
+      both-reach m n lm ln hit
+
+  pub demand-grid : Demand3 g ts ps (tested filled g ps)
+  demand-grid = record {
+    free = (free-none, none-free);
+    apart = λ e p. common-reach (p .leg-in) (free-none e (p .m)) ts (λ n r. r) (p .common);
+    blocked = blocked-both;
+  }
+
+-- ---- a file, a map that an accepted fill with it left, and the numbers of a route
+module _ (s m : List ℕ) where
+  abbrev rule : ℕ → Bool
+  rule = filledBy (gridAt (headerOf version1 s)) (steel s (headerOf version1 s))
+
+  abbrev cells : ℕ
+  cells = cellCount (headerOf version1 s)
+
+  -- the map holds the rule's cells
+  filled-rule : LeftByFill s m → (n : ℕ) → n < cells → isFilled m n ≡ rule n
+  unfolding filling filledBytes
+  filled-rule left n l = go (fillVerdict s (length (left .old))) (left .accepted) (left .bytes)
+    where
+      go : (v : Verdict) → fillAnswer v (countBelow rule cells) ≡ Filled (left .count)
+          → m ≡ fillBytes v (mapOf rule cells ++ drop (mapLength cells) (left .old)) (left .old) → isFilled m n ≡ rule n
+      go (Broken k) a b = let z : _≡_ {A = ℕ} 0 1 = cc in absurd (omega arith)
+      go Passed a b =
+          ap (λ (x : List ℕ). isFilled x n) b
+          ∙ filled-map rule cells (drop (mapLength cells) (left .old)) n (omega arith)
+          ∙ rw (lt-ltb n cells l)
+
+  module _ (ns : List ℤ) where
+    pub demand-3 : DemandOf s m ns (routeAnswer s m ns)
+    demand-3 accept left =
+        let h = headerOf version1 s in
+        let p = answer-passed s m ns accept in
+        let r = ready (accepted s h (p .file)) in
+        let route = last-passed h (length m) ns (p .last) .1 in
+        let proper : Proper (gridAt h) = record { x = r .x .some; y = r .y .some; z = r .z .some; edge = <→≤ (r .positive) } in
+        rw (p .answer)
+        (demand-grid (gridAt h) (steel s h) (pointsOf ns) (isFilled m) proper
+        (λ i l. inside-grid (route .inside i (omega (arith, points-length ns)))) (filled-rule left))

@@ -1,0 +1,3 @@
+pub mod Route
+pub mod Demand
+pub mod Search
