@@ -14,7 +14,6 @@ pub mod Tests
 pub mod RuleToReach
 pub mod ReachToRule
 pub mod Theorem
--- Legs, cells of a grid, worked examples.
+-- Legs, cells of a grid.
 pub mod Legs
 pub mod Grid
-pub mod Worked
