@@ -30,7 +30,7 @@ and-or-none true q = refl
 and-or-none false q = refl
 
 -- ---- ranges
-in-range : (r : CellRange) (i : ℕ) → inRange r i ≡ true → (r .first ≤ i) × (i < r .end)
+pub in-range : (r : CellRange) (i : ℕ) → inRange r i ≡ true → (r .first ≤ i) × (i < r .end)
 in-range r i e = (leb-true _ _ (and-left (leb (r .first) i) (ltb i (r .end)) e), ltb-true _ _ (and-right (leb (r .first) i) (ltb i (r .end)) e))
 
 pub range-in : (r : CellRange) (i : ℕ) → r .first ≤ i → i < r .end → inRange r i ≡ true

@@ -1,5 +1,5 @@
-mod Blocks
-mod Ways
+pub mod Blocks
+pub mod Ways
 mod Triangles
 mod Ready
 mod Answers

@@ -36,17 +36,18 @@ none true true f = absurd (f refl refl)
 none true false f = refl
 none false q f = refl
 
-apart : {p : Bool} → p ≡ true → p ≡ false → ⊥
+pub apart : {p : Bool} → p ≡ true → p ≡ false → ⊥
 apart t f = let z : _≡_ {A = ℕ} 0 1 = cc in omega arith
 
 -- ---- a cell of a block lies between its first and its last cell
+-- cells further along an axis begin further on
+pub further : (o e : ℤ) → pos 0 <ℤ e → {m n : ℕ} → m ≤ n → (o +ℤ pos m *ℤ e) ≤ℤ (o +ℤ pos n *ℤ e)
+further o e h {m} {n} l =
+    by-le (pos m ∷ pos n ∷ e ∷ o ∷ []) (var 3 ⊕ var 0 ⊗ var 2) (var 3 ⊕ var 1 ⊗ var 2)
+    (nn (var 2) (<→≤ h) ⊠ le (var 0) (var 1) (pos-le l)) tt
+
 between : (o e : ℤ) → pos 0 <ℤ e → {a i b : ℕ} → a ≤ i → i < b → ((o +ℤ pos a *ℤ e) ≤ℤ (o +ℤ pos i *ℤ e)) × ((o +ℤ pos i *ℤ e) ≤ℤ (o +ℤ pos (b - 1) *ℤ e))
-between o e h {a} {i} {b} l r = (step a i l, step i (b - 1) (omega arith))
-  where
-    step : (m n : ℕ) → m ≤ n → (o +ℤ pos m *ℤ e) ≤ℤ (o +ℤ pos n *ℤ e)
-    step m n q =
-        by-le (pos m ∷ pos n ∷ e ∷ o ∷ []) (var 3 ⊕ var 0 ⊗ var 2) (var 3 ⊕ var 1 ⊗ var 2)
-        (nn (var 2) (<→≤ h) ⊠ le (var 0) (var 1) (pos-le q)) tt
+between o e h l r = (further o e h l, further o e h (omega arith))
 
 module _ (g : Grid) (f : Setup) (positive : pos 0 <ℤ g .edge) where
   cell-in : (b : BoxRange) (i j k : ℕ) → inBlock b i j k ≡ true

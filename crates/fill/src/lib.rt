@@ -80,7 +80,7 @@ fn fill_accepted(file: &[u8], header: Header, map: &mut [u8]) -> Filling
 }
 
 // The grid's cells in all.
-fn cell_count(cells: Cells) -> usize
+pub fn cell_count(cells: Cells) -> usize
     requires { ⌜ (cells .x ≤ 64) × (cells .y ≤ 64) × (cells .z ≤ 64) ⌝ }
     ensures { λ r. ⌜ (r ≡ cells .x * cells .y * cells .z) × (r ≤ 262144) ⌝ }
 {

@@ -3,21 +3,16 @@
 --     no-layer, no-row       a layer or a row that a form rules out has none
 --     found-none, found-at   so the search finds the lowest cell filled and touched
 -- Assumes nothing.
-use mathlib.Core.Bool.{Bool, true, false, _&&_, and-eq-true-iff, false≢true}
-use mathlib.Core.List.{List, [], _∷_}
+use mathlib.Core.Bool.{Bool, true, false, _&&_, and-eq-true-iff}
+use mathlib.Core.List.{List}
 use mathlib.Core.Logic.{_⊎_, inl, inr, ⊎-elim}
-use mathlib.Core.Path.{_≡_, refl, sym, ap, _∙_}
+use mathlib.Core.Path.{_≡_, sym, ap, _∙_}
 use Prim.Native.Nat.{ℕ, suc, _+_, _-_, _*_, _<_, _≤_}
 use native.Mathlib.Decide.{decLt}
 use native.Mathlib.Nat.{mul-le-mul-left, mul-suc}
 use native.Mathlib.Omega.{arith}
-use borrow.Author.Tests.{lt-ltb, le-leb, leb-true, ltb-true}
-use lib.Dec.{leb, ltb}
-use lib.IntN.{ℤ, pos, _+ℤ_, _*ℤ_}
-use lib.Signed.{_≤ℤ_, _<ℤ_}
-use Rattle.integers.proofs.Certificates.{nn, le, _⊠_, by-le}
-use Rattle.integers.proofs.Expr.{var, _⊕_, _⊗_}
-use Rattle.integers.proofs.Laws.{<→≤, pos-le}
+use lib.IntN.{ℤ, pos}
+use lib.Signed.{_<ℤ_}
 use Rattle.overlap.specs.declared.CellRange.{CellRange}
 use Rattle.overlap.specs.declared.Setup.{Setup}
 use Rattle.overlap.specs.Block.{InBlock, blockTest}
@@ -31,33 +26,15 @@ use Rattle.grid.specs.Cells.{cellNumber, xOfCell, yOfCell, zOfCell}
 use Rattle.grid.specs.Map.{isFilled}
 use Rattle.grid.proofs.Numbers.{number-lt, number-of, x-of, y-of, z-of, x-lt, y-lt, z-lt}
 use Rattle.fill.specs.Steel.{fillsCell}
+use Rattle.fill.proofs.Blocks.{in-range, range-in}
+use Rattle.fill.proofs.Ways.{none, apart, further}
 use Rattle.route.specs.declared.Found.the-variants.{Cell, Nothing}
 use Rattle.route.specs.Route.{filledAndTouched, firstTouched, cellsOf}
 use Rattle.route.proofs.First.{none-below, first-at}
 
--- ---- tests
-pub apart : {p : Bool} → p ≡ true → p ≡ false → ⊥
-apart t f = false≢true (sym f ∙ t)
-
-none : (p q : Bool) → (p ≡ true → q ≡ true → ⊥) → (p && q) ≡ false
-none true true f = absurd (f refl refl)
-none true false f = refl
-none false q f = refl
-
 -- ---- ranges
 abbrev In : CellRange → ℕ → Type 0
 In r i = (r .first ≤ i) × (i < r .end)
-
-in-range : (r : CellRange) (i : ℕ) → inRange r i ≡ true → In r i
-in-range r i e = let (a, b) = and-eq-true-iff (leb (r .first) i) (ltb i (r .end)) .0 e in (leb-true (r .first) i a, ltb-true i (r .end) b)
-
-range-in : (r : CellRange) (i : ℕ) → In r i → inRange r i ≡ true
-range-in r i h = rw (le-leb (r .first) i (h .0), lt-ltb i (r .end) (h .1))
-
--- cells further along an axis begin further on
-further : (o e : ℤ) → pos 0 <ℤ e → {m n : ℕ} → m ≤ n → (o +ℤ pos m *ℤ e) ≤ℤ (o +ℤ pos n *ℤ e)
-further o e h {m} {n} l =
-    by-le (pos m ∷ pos n ∷ e ∷ o ∷ []) (var 3 ⊕ var 0 ⊗ var 2) (var 3 ⊕ var 1 ⊗ var 2) (nn (var 2) (<→≤ h) ⊠ le (var 0) (var 1) (pos-le l)) tt
 
 -- numbers of two digits are ordered as their high digits, and then as their low ones
 digits : (a x q i r : ℕ) → i < a → x + a * q ≤ i + a * r → (q < r) ⊎ ((q ≡ r) × (x ≤ i))
@@ -145,7 +122,7 @@ module _ (s : List ℕ) (g : Grid) (f : Setup) (x y z : CellRange) where
     unfolding firstTouched
     found-at i j k hx hy hz filled test layers rows cells =
         first-at (filledAndTouched (isFilled s) g t) (cellNumber (g .nx) (g .ny) i j k) (cellsOf g) (number-lt (g .nx) (g .ny) (g .nz) i j k li lj lk)
-        (rw (x-of (g .nx) (g .ny) i j k li, y-of (g .nx) (g .ny) i j k li lj, z-of (g .nx) (g .ny) i j k li lj, filled, by-range i j k li lj lk, range-in x i hx, range-in y j hy, range-in z k hz, test))
+        (rw (x-of (g .nx) (g .ny) i j k li, y-of (g .nx) (g .ny) i j k li lj, z-of (g .nx) (g .ny) i j k li lj, filled, by-range i j k li lj lk, range-in x i (hx .0) (hx .1), range-in y j (hy .0) (hy .1), range-in z k (hz .0) (hz .1), test))
         (λ n l. no-cell n (omega (arith, number-lt (g .nx) (g .ny) (g .nz) i j k li lj lk)) (before (xOfCell (g .nx) n) (yOfCell (g .nx) (g .ny) n) (zOfCell (g .nx) (g .ny) n) (omega (arith, number-of (g .nx) (g .ny) n))))
       where
         li : i < g .nx

@@ -36,7 +36,7 @@ use Rattle.route.specs.declared.RouteAnswer.the-variants.{Free, Blocked}
 use Rattle.route.specs.Route.{pointsOf, pointAt, legAt, legCount, cellsOf, filledAndTouched, firstTouched, onLeg, tested, routeAnswer}
 use Rattle.route.specs.Demand.{SomeOf, cornerOf, BothReach, Demand3, LeftByFill, DemandOf}
 use Rattle.route.proofs.Answers.{last-passed, answer-passed}
-use Rattle.route.proofs.Blocks.{apart}
+use Rattle.fill.proofs.Ways.{apart}
 use Rattle.route.proofs.First.{none-below, below-none, found-has, legs-free, free-legs, blocked-leg}
 use Rattle.route.proofs.Ready.{ready, points-length, inside-grid}
 

@@ -1,5 +1,4 @@
 // The route test: is a route free of the filled cells of a map?
-use frame::Cells;
 use frame::Checked;
 use frame::Header;
 use frame::Limit;
@@ -67,7 +66,7 @@ fn check_last(header: Header, len: usize, numbers: &[i16]) -> Verdict
     ensures { λ r. ⌜ r ≡ firstBroken (lastQuestions header len (now (numbers .entry))) ⌝ }
 {
     let cells = header.cells;
-    let n = cell_count(cells);
+    let n = fill::cell_count(cells);
     if len < grid::map_length(n) {
         return Verdict::Broken(Limit::ShortMap);
     }
@@ -82,15 +81,6 @@ fn check_last(header: Header, len: usize, numbers: &[i16]) -> Verdict
         return Verdict::Broken(Limit::PointCount);
     }
     check_points(header, numbers, count)
-}
-
-// The grid's cells in all.
-fn cell_count(cells: Cells) -> usize
-    requires { ⌜ (cells .x ≤ 64) × (cells .y ≤ 64) × (cells .z ≤ 64) ⌝ }
-    ensures { λ r. ⌜ (r ≡ cells .x * cells .y * cells .z) × (r ≤ 262144) ⌝ }
-{
-    let layer = cells.x * cells.y;
-    layer * cells.z
 }
 
 // Question 10, of the first `count` points.

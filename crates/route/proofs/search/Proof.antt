@@ -15,7 +15,8 @@ use Rattle.grid.specs.Map.{isFilled}
 use Rattle.grid.proofs.Numbers.{number-lt}
 use Rattle.fill.specs.Steel.{gridAt}
 use Rattle.route.specs.declared.Found.the-variants.{Cell, Nothing}
-use Rattle.route.proofs.Blocks.{apart, Layers, Rows, Cells, no-layer, no-row, found-none, found-at}
+use Rattle.fill.proofs.Ways.{apart}
+use Rattle.route.proofs.Blocks.{Layers, Rows, Cells, no-layer, no-row, found-none, found-at}
 use Rattle.route.proofs.search.Statement.{statement}
 use Rattle.route.proofs.search.Tie as tie
 
