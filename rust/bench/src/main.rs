@@ -1,0 +1,151 @@
+//! Fills maps and tests routes by the verified library and by peers written in Rust, to count instructions.
+//!
+//!     bench fill PEER SCENE CELLS N    fill the scene's map N times, CELLS cells a side
+//!     bench count SCENE CELLS          print the number of filled cells
+//!     bench test PEER SCENE N          test 32 × 32 × 32 cells for every triangle of the scene N times
+//!     bench route PEER free|blocked N  test the free or the blocked route of 63 legs on the rails N times
+//!     bench stack SCENE CELLS          print the bytes of stack that the verified fill takes
+//!     bench check                      hold every peer to the rule as printed, and to the others
+
+mod cells;
+mod frame;
+mod map;
+mod peers;
+mod routes;
+mod rule;
+mod scenes;
+mod stack;
+
+use frame::Refusal;
+use peers::{Fill, PEERS};
+use std::hint::black_box;
+
+/// The greatest map, with some bytes behind it.
+const LENT: usize = 32768 + 64;
+
+/// What a fill answers and leaves in lent bytes.
+fn outcome(fill: Fill, file: &[u8], lent: usize) -> (Result<u32, Refusal>, Vec<u8>) {
+    let mut map = vec![0xa5; lent];
+    (fill(file, &mut map), map)
+}
+
+/// Every peer against the first.
+fn agree(file: &[u8], lent: usize) -> (Result<u32, Refusal>, Vec<u8>) {
+    let first = outcome(PEERS[0].1, file, lent);
+    for (name, fill) in &PEERS[1..] {
+        let other = outcome(*fill, file, lent);
+        assert!(
+            first == other,
+            "{name} differs: {:?}, {:?}",
+            first.0,
+            other.0
+        );
+    }
+    first
+}
+
+fn check() {
+    let mut filled = 0;
+    for scene in scenes::SCENES {
+        for cells in [16, 32, 64] {
+            let (answer, _) = agree(&scenes::file(scene, cells), LENT);
+            filled += answer.unwrap();
+        }
+    }
+    for triangle in scenes::triangles("plates") {
+        let [rattle, rust] = cells::PEERS.map(|(_, tests)| tests(&triangle, 100));
+        assert!(rattle == rust, "cells that pass: {rattle}, {rust}");
+    }
+    let mut random = scenes::Random(2);
+    let (mut accepted, mut refused) = (0, 0);
+    for _ in 0..2000 {
+        let mut file = scenes::any_file(&mut random);
+        match random.between(0, 9) {
+            0 => file.truncate(random.between(0, file.len() as i64) as usize),
+            1 => {
+                let at = random.between(0, file.len() as i64 - 1) as usize;
+                file[at] ^= 1 << random.between(0, 7);
+            }
+            2 => file.push(0),
+            _ => {}
+        }
+        let lent = if random.between(0, 9) == 0 { 4 } else { LENT };
+        let first = agree(&file, lent);
+        assert!(
+            first == outcome(peers::printed, &file, lent),
+            "printed rule"
+        );
+        match first.0 {
+            Ok(count) => {
+                accepted += 1;
+                filled += count;
+            }
+            Err(_) => refused += 1,
+        }
+    }
+    println!("12 scenes, {accepted} accepted and {refused} refused files, {filled} filled cells: all alike");
+}
+
+/// The peer with a name.
+fn named<T: Copy>(peers: &[(&str, T)], name: &str) -> T {
+    peers.iter().find(|peer| peer.0 == name).expect("peer").1
+}
+
+/// The overlap test alone, of every triangle of a scene.
+fn test_cells(tests: cells::Tests, scene: &str, times: usize) {
+    let grid = scenes::grid(32);
+    let triangles = scenes::triangles(scene);
+    for _ in 0..times {
+        for triangle in &triangles {
+            let triangle = triangle.map(|v| scenes::moved(v, grid.origin.map(|x| -x)));
+            black_box(tests(black_box(&triangle), grid.edge));
+        }
+    }
+}
+
+/// The route test, of a route on the rails.
+fn test_route(test: routes::Test, which: &str, times: usize) {
+    let scene = routes::Scene::rails();
+    let numbers = routes::route(&scene, which);
+    for _ in 0..times {
+        black_box(test(
+            &scene.file,
+            black_box(&scene.map),
+            black_box(&numbers),
+        ));
+    }
+}
+
+fn main() {
+    let words: Vec<String> = std::env::args().skip(1).collect();
+    let words: Vec<&str> = words.iter().map(String::as_str).collect();
+    match words[..] {
+        ["check"] => {
+            check();
+            routes::check();
+        }
+        ["count", scene, cells] => {
+            let file = scenes::file(scene, cells.parse().unwrap());
+            println!("{}", agree(&file, LENT).0.unwrap());
+        }
+        ["stack", scene, cells] => {
+            let file = scenes::file(scene, cells.parse().unwrap());
+            println!("{}", stack::depth(&file, &mut vec![0; LENT]));
+        }
+        ["fill", peer, scene, cells, times] => {
+            let fill = named(&PEERS, peer);
+            let file = scenes::file(scene, cells.parse().unwrap());
+            let mut map = vec![0; LENT];
+            for _ in 0..times.parse().unwrap() {
+                black_box(fill(black_box(&file), black_box(&mut map)).unwrap());
+            }
+        }
+        ["test", peer, scene, times] => {
+            test_cells(named(&cells::PEERS, peer), scene, times.parse().unwrap());
+        }
+        ["route", peer, which, times] => {
+            test_route(named(&routes::PEERS, peer), which, times.parse().unwrap());
+        }
+        _ => panic!("see the first lines of main.rs"),
+    }
+}

@@ -1,0 +1,31 @@
+//! The map: one bit a cell, the highest bit of a byte first.
+
+use crate::frame::Grid;
+
+/// A grid with the lent bytes of its map.
+pub struct Map<'a> {
+    pub grid: Grid,
+    bytes: &'a mut [u8],
+}
+
+impl<'a> Map<'a> {
+    /// An empty map in the first bytes of those lent.
+    pub fn new(grid: Grid, lent: &'a mut [u8]) -> Self {
+        let bytes = &mut lent[..grid.map_length()];
+        bytes.fill(0);
+        Map { grid, bytes }
+    }
+
+    /// Fills cell (i, j, k).
+    #[inline(always)]
+    pub fn set(&mut self, [i, j, k]: [usize; 3]) {
+        let [nx, ny, _] = self.grid.cells;
+        let n = i + nx * (j + ny * k);
+        self.bytes[n / 8] |= 128 >> (n % 8);
+    }
+
+    /// How many cells are filled.
+    pub fn count(&self) -> u32 {
+        self.bytes.iter().map(|byte| byte.count_ones()).sum()
+    }
+}

@@ -1,0 +1,237 @@
+//! The peers: four ways to fill a map. Each reads the file, asks the questions, and counts.
+
+use crate::frame::{Frame, Grid, Refusal};
+use crate::map::Map;
+use crate::rule::{as_printed, cells_of_box, Block, Point, Setup, Triangle, PLANES};
+
+/// A fill: the number of filled cells, or the refusal.
+pub type Fill = fn(&[u8], &mut [u8]) -> Result<u32, Refusal>;
+
+/// The peers by name. The first is the verified library.
+pub const PEERS: [(&str, Fill); 4] = [
+    ("rattle", rattle),
+    ("halving", halving),
+    ("box", every_cell),
+    ("column", columns),
+];
+
+/// The static library's fill.
+pub fn rattle(file: &[u8], map: &mut [u8]) -> Result<u32, Refusal> {
+    extern "C" {
+        fn stall_fill(file: *const u8, file_len: usize, map: *mut u8, map_len: usize) -> u64;
+    }
+    // SAFETY: both slices are alive for the call, and the library keeps neither.
+    let answer = unsafe { stall_fill(file.as_ptr(), file.len(), map.as_mut_ptr(), map.len()) };
+    if answer >> 56 == 0 {
+        Ok(answer as u32)
+    } else {
+        Err(Refusal {
+            number: (answer >> 48) as u8,
+            place: answer as u32,
+        })
+    }
+}
+
+/// Fills a map by a way to place one triangle.
+#[inline(always)]
+fn fill_by(
+    file: &[u8],
+    lent: &mut [u8],
+    place: impl Fn(&mut Map, &Triangle),
+) -> Result<u32, Refusal> {
+    let frame = Frame::read(file, lent.len())?;
+    let mut map = Map::new(frame.grid, lent);
+    for triangle in frame.triangles() {
+        place(&mut map, &triangle);
+    }
+    Ok(map.count())
+}
+
+/// The lowest corner of a cell.
+#[inline(always)]
+pub fn corner(grid: &Grid, i: usize, j: usize, k: usize) -> Point {
+    let along = |w: usize, i: usize| grid.origin[w] + i as i64 * grid.edge;
+    [along(0, i), along(1, j), along(2, k)]
+}
+
+// ---- every cell of the triangle's box of cells, as in document 004
+
+pub fn every_cell(file: &[u8], map: &mut [u8]) -> Result<u32, Refusal> {
+    fill_by(file, map, |map, t| {
+        if let Some(block) = cells_of_box(t, &map.grid) {
+            walk_box(map, &Setup::new(t, map.grid.edge), block);
+        }
+    })
+}
+
+fn walk_box(map: &mut Map, setup: &Setup, [x, y, z]: Block) {
+    for k in z {
+        for j in y.clone() {
+            for i in x.clone() {
+                if setup.overlaps(corner(&map.grid, i, j, k)) {
+                    map.set([i, j, k]);
+                }
+            }
+        }
+    }
+}
+
+// ---- columns along the dominant axis of the normal, as in figure 17 of document 002
+
+pub fn columns(file: &[u8], map: &mut [u8]) -> Result<u32, Refusal> {
+    fill_by(file, map, |map, t| {
+        if let Some(block) = cells_of_box(t, &map.grid) {
+            let setup = Setup::new(t, map.grid.edge);
+            let [x, y, z] = setup.normal.map(i64::abs);
+            if x.max(y).max(z) == 0 {
+                walk_box(map, &setup, block);
+            } else if x >= y && x >= z {
+                walk_columns::<0>(map, &setup, block);
+            } else if y >= z {
+                walk_columns::<1>(map, &setup, block);
+            } else {
+                walk_columns::<2>(map, &setup, block);
+            }
+        }
+    })
+}
+
+/// The columns along axis W, on which the normal is not 0. In a column the plane leaves a range of
+/// cells, which two divisions find.
+fn walk_columns<const W: usize>(map: &mut Map, setup: &Setup, block: Block) {
+    let (u, v) = PLANES[W];
+    let Grid { edge, origin, .. } = map.grid;
+    let at = |w: usize, i: usize| origin[w] + i as i64 * edge;
+    // the normal turned upward on W
+    let up = if setup.normal[W] < 0 { -1 } else { 1 };
+    let n = setup.normal.map(|x| up * x);
+    let (above, below) = if up < 0 {
+        (-setup.below, -setup.above)
+    } else {
+        (setup.above, setup.below)
+    };
+    let step = n[W] * edge;
+    for i in block[u].clone() {
+        for j in block[v].clone() {
+            let (pu, pv) = (at(u, i), at(v, j));
+            if !setup.in_plane(W, pu, pv) {
+                continue;
+            }
+            // base + k × step + above >= 0, and base + k × step + below <= 0
+            let base = n[u] * pu + n[v] * pv + n[W] * origin[W];
+            let first = -(base + above).div_euclid(step);
+            let end = (-(base + below)).div_euclid(step) + 1;
+            let first = first.max(block[W].start as i64) as usize;
+            let end = end.clamp(0, block[W].end as i64) as usize;
+            for k in first..end {
+                let pw = at(W, k);
+                if setup.in_plane(u, pv, pw) && setup.in_plane(v, pw, pu) {
+                    let mut cell = [0; 3];
+                    (cell[u], cell[v], cell[W]) = (i, j, k);
+                    map.set(cell);
+                }
+            }
+        }
+    }
+}
+
+// ---- the box of cells halved down to single cells, without the blocks that a form rules out
+
+pub fn halving(file: &[u8], map: &mut [u8]) -> Result<u32, Refusal> {
+    fill_by(file, map, |map, t| {
+        if let Some([x, y, z]) = cells_of_box(t, &map.grid) {
+            let setup = Setup::new(t, map.grid.edge);
+            let range = |r: std::ops::Range<usize>| Side(r.start, r.end);
+            fill_block(map, &setup, [range(x), range(y), range(z)]);
+        }
+    })
+}
+
+/// The cells of an axis from the first number on and below the second.
+#[derive(Clone, Copy)]
+struct Side(usize, usize);
+
+impl Side {
+    fn width(self) -> usize {
+        self.1 - self.0
+    }
+}
+
+fn fill_block(map: &mut Map, setup: &Setup, sides: [Side; 3]) {
+    let [x, y, z] = sides;
+    let low = corner(&map.grid, x.0, y.0, z.0);
+    let high = corner(&map.grid, x.1 - 1, y.1 - 1, z.1 - 1);
+    if !may_overlap(setup, low, high) {
+        return;
+    }
+    if x.width() + y.width() + z.width() == 3 {
+        return map.set([x.0, y.0, z.0]);
+    }
+    let longest = if y.width() <= x.width() {
+        if z.width() <= x.width() {
+            0
+        } else {
+            2
+        }
+    } else if z.width() <= y.width() {
+        1
+    } else {
+        2
+    };
+    let Side(first, end) = sides[longest];
+    let middle = first + (end - first) / 2;
+    let (mut lower, mut upper) = (sides, sides);
+    lower[longest] = Side(first, middle);
+    upper[longest] = Side(middle, end);
+    fill_block(map, setup, lower);
+    fill_block(map, setup, upper);
+}
+
+/// The end of a range at which m × q is greatest.
+#[inline(always)]
+fn far_end(m: i64, low: i64, high: i64) -> i64 {
+    if m < 0 {
+        low
+    } else {
+        high
+    }
+}
+
+/// Is each form's greatest value over the cells with lowest corners from low to high at least 0?
+#[inline(always)]
+pub fn may_overlap(setup: &Setup, low: Point, high: Point) -> bool {
+    let n = &setup.normal;
+    let far = |low: Point, high: Point| -> i64 {
+        (0..3).map(|w| n[w] * far_end(n[w], low[w], high[w])).sum()
+    };
+    let in_plane = |w: usize| {
+        let (u, v) = PLANES[w];
+        setup.edges[w].iter().all(|e| {
+            let u = far_end(e.a, low[u], high[u]);
+            let v = far_end(e.b, low[v], high[v]);
+            e.a * u + e.b * v + e.c >= 0
+        })
+    };
+    far(high, low) + setup.below <= 0
+        && far(low, high) + setup.above >= 0
+        && in_plane(2)
+        && in_plane(0)
+        && in_plane(1)
+}
+
+// ---- every cell of the grid by the rule as printed: no peer, but what the peers are held to
+
+pub fn printed(file: &[u8], map: &mut [u8]) -> Result<u32, Refusal> {
+    fill_by(file, map, |map, t| {
+        let grid = map.grid;
+        for k in 0..grid.cells[2] {
+            for j in 0..grid.cells[1] {
+                for i in 0..grid.cells[0] {
+                    if as_printed(t, corner(&grid, i, j, k), grid.edge) {
+                        map.set([i, j, k]);
+                    }
+                }
+            }
+        }
+    })
+}

@@ -1,0 +1,329 @@
+//! Route tests: three ways to test a route against a map, and the routes that they are measured on.
+
+use crate::frame::{Frame, Grid, Refusal};
+use crate::peers::{corner, may_overlap, rattle as fill};
+use crate::rule::{as_printed, cells_of_box, Block, Point, Setup};
+use crate::scenes::{self, Random};
+
+/// What a route test answers: free; or blocked, by a leg at a cell; or the refusal.
+#[derive(Clone, Copy, Debug, PartialEq, Eq)]
+pub enum Answer {
+    Free,
+    Blocked { leg: u8, cell: u32 },
+    Refused(Refusal),
+}
+
+/// A route test of a file, a map, and the points' numbers: x, y and z in turn.
+pub type Test = fn(&[u8], &[u8], &[i16]) -> Answer;
+
+/// The peers by name. The first is the verified library.
+pub const PEERS: [(&str, Test); 3] = [("rattle", rattle), ("rows", rows), ("box", every_cell)];
+
+/// The static library's route test.
+fn rattle(file: &[u8], map: &[u8], numbers: &[i16]) -> Answer {
+    #[rustfmt::skip]
+    extern "C" {
+        fn stall_route(
+            file: *const u8, file_len: usize, map: *const u8, map_len: usize,
+            numbers: *const i16, numbers_len: usize,
+        ) -> u64;
+    }
+    let (files, maps) = (file.as_ptr(), map.as_ptr());
+    // SAFETY: the three slices are alive for the call, and the library keeps none.
+    let answer = unsafe {
+        stall_route(
+            files,
+            file.len(),
+            maps,
+            map.len(),
+            numbers.as_ptr(),
+            numbers.len(),
+        )
+    };
+    let (number, low) = ((answer >> 48) as u8, answer as u32);
+    match answer >> 56 {
+        1 => Answer::Refused(Refusal { number, place: low }),
+        2 => Answer::Free,
+        _ => Answer::Blocked {
+            leg: (answer >> 32) as u8,
+            cell: low,
+        },
+    }
+}
+
+/// Tests a route by a way to search a leg's box of cells for the lowest that is filled and touched.
+#[inline(always)]
+fn test_by(
+    file: &[u8],
+    map: &[u8],
+    numbers: &[i16],
+    search: impl Fn(&Grid, &[u8], &Setup, Block) -> Option<usize>,
+) -> Answer {
+    let grid = match questions(file, map, numbers) {
+        Ok(grid) => grid,
+        Err(refusal) => return Answer::Refused(refusal),
+    };
+    for m in 0..numbers.len() / 3 - 1 {
+        let [a, b] = [m, m + 1].map(|m| point(&numbers[3 * m..]));
+        let leg = [a, b, b];
+        let setup = Setup::new(&leg, grid.edge);
+        let found = cells_of_box(&leg, &grid).and_then(|block| search(&grid, map, &setup, block));
+        if let Some(cell) = found {
+            return Answer::Blocked {
+                leg: m as u8,
+                cell: cell as u32,
+            };
+        }
+    }
+    Answer::Free
+}
+
+/// Questions 1 to 10, in turn.
+fn questions(file: &[u8], map: &[u8], numbers: &[i16]) -> Result<Grid, Refusal> {
+    let grid = Frame::read(file, map.len())?.grid;
+    if !(2..=64).contains(&(numbers.len() / 3)) || numbers.len() % 3 != 0 {
+        return Err(Refusal {
+            number: 9,
+            place: 0,
+        });
+    }
+    let outside = |p: Point| {
+        let far = |w: usize| grid.origin[w] + grid.cells[w] as i64 * grid.edge;
+        (0..3).any(|w| p[w] < grid.origin[w] || far(w) < p[w])
+    };
+    match numbers.chunks_exact(3).position(|p| outside(point(p))) {
+        Some(i) => Err(Refusal {
+            number: 10,
+            place: i as u32,
+        }),
+        None => Ok(grid),
+    }
+}
+
+/// The point of the first three numbers.
+fn point(numbers: &[i16]) -> Point {
+    [0, 1, 2].map(|w| numbers[w] as i64)
+}
+
+/// The number of cell (i, j, k).
+#[inline(always)]
+fn number(grid: &Grid, i: usize, j: usize, k: usize) -> usize {
+    i + grid.cells[0] * (j + grid.cells[1] * k)
+}
+
+/// Is cell n filled?
+#[inline(always)]
+fn is_filled(map: &[u8], n: usize) -> bool {
+    map[n / 8] & (128 >> (n % 8)) != 0
+}
+
+// ---- layers, rows and cells, without the layers and rows that a form rules out: as the library does
+
+fn rows(file: &[u8], map: &[u8], numbers: &[i16]) -> Answer {
+    test_by(file, map, numbers, |grid, map, setup, [x, y, z]| {
+        let (last_i, last_j) = (x.end - 1, y.end - 1);
+        let may_touch = |from: [usize; 3], to: [usize; 3]| {
+            let low = corner(grid, from[0], from[1], from[2]);
+            may_overlap(setup, low, corner(grid, to[0], to[1], to[2]))
+        };
+        for k in z {
+            if !may_touch([x.start, y.start, k], [last_i, last_j, k]) {
+                continue;
+            }
+            for j in y.clone() {
+                if !may_touch([x.start, j, k], [last_i, j, k]) {
+                    continue;
+                }
+                for i in x.clone() {
+                    let n = number(grid, i, j, k);
+                    if is_filled(map, n) && may_touch([i, j, k], [i, j, k]) {
+                        return Some(n);
+                    }
+                }
+            }
+        }
+        None
+    })
+}
+
+// ---- every cell of a leg's box of cells: the overlap test, then the map's bit
+
+fn every_cell(file: &[u8], map: &[u8], numbers: &[i16]) -> Answer {
+    test_by(file, map, numbers, |grid, map, setup, [x, y, z]| {
+        for k in z {
+            for j in y.clone() {
+                for i in x.clone() {
+                    let n = number(grid, i, j, k);
+                    if setup.overlaps(corner(grid, i, j, k)) && is_filled(map, n) {
+                        return Some(n);
+                    }
+                }
+            }
+        }
+        None
+    })
+}
+
+// ---- the routes to measure
+
+/// The points of a route, and how many are proposed for each.
+const POINTS: usize = 64;
+const PROPOSED: usize = 200;
+
+/// A file with the map of its fill.
+pub struct Scene {
+    pub file: Vec<u8>,
+    pub map: Vec<u8>,
+}
+
+impl Scene {
+    /// The map of a file that is accepted.
+    fn new(file: Vec<u8>) -> Option<Scene> {
+        let mut map = vec![0; 32768];
+        fill(&file, &mut map).ok()?;
+        Some(Scene { file, map })
+    }
+
+    /// The 200 rails, in 64 × 64 × 64 cells.
+    pub fn rails() -> Scene {
+        Scene::new(scenes::file("rails", 64)).unwrap()
+    }
+
+    /// What Rust says of one leg.
+    fn leg(&self, from: Point, to: Point) -> Answer {
+        rows(&self.file, &self.map, &numbers(&[from, to]))
+    }
+
+    /// The answer of all the peers.
+    fn agree(&self, numbers: &[i16]) -> Answer {
+        let [first, others @ ..] = PEERS.map(|(_, test)| test(&self.file, &self.map, numbers));
+        for other in others {
+            assert!(first == other, "routes differ: {first:?}, {other:?}");
+        }
+        first
+    }
+}
+
+/// The numbers of points: x, y and z in turn.
+fn numbers(points: &[Point]) -> Vec<i16> {
+    points.iter().flatten().map(|x| *x as i16).collect()
+}
+
+/// The square of the distance of two points.
+fn distance([a, b]: [Point; 2]) -> i64 {
+    (0..3).map(|w| (a[w] - b[w]).pow(2)).sum()
+}
+
+/// A point of a grid's closed box, its outermost included.
+fn any_point(random: &mut Random, grid: &Grid) -> Point {
+    [0, 1, 2].map(|w| grid.origin[w] + random.between(0, grid.cells[w] as i64 * grid.edge))
+}
+
+/// Of the points proposed, the farthest to which the leg is free, or blocked, as wanted.
+fn farthest(random: &mut Random, scene: &Scene, from: Point, free: bool) -> Option<Point> {
+    let grid = scenes::grid(64);
+    let mut proposed = [(); PROPOSED].map(|_| any_point(random, &grid));
+    proposed.sort_by_key(|to| -distance([from, *to]));
+    let mut proposed = proposed.into_iter();
+    proposed.find(|to| (scene.leg(from, *to) == Answer::Free) == free)
+}
+
+/// A free route on the rails; or one that is blocked by its last leg alone.
+pub fn route(scene: &Scene, which: &str) -> Vec<i16> {
+    let mut random = Random(3);
+    let grid = scenes::grid(64);
+    let mut points = vec![];
+    while points.is_empty() {
+        let p = any_point(&mut random, &grid);
+        if scene.leg(p, p) == Answer::Free {
+            points.push(p);
+        }
+    }
+    while points.len() < POINTS {
+        let free = which == "free" || points.len() + 1 < POINTS;
+        let from = points[points.len() - 1];
+        points.extend(farthest(&mut random, scene, from, free));
+    }
+    numbers(&points)
+}
+
+// ---- the check
+
+/// The search of the whole grid by the rule as printed: no peer, but what the peers are held to.
+fn printed(file: &[u8], map: &[u8], numbers: &[i16]) -> Answer {
+    let grid = match questions(file, map, numbers) {
+        Ok(grid) => grid,
+        Err(refusal) => return Answer::Refused(refusal),
+    };
+    let [nx, ny, _] = grid.cells;
+    for (m, ends) in numbers[3..].chunks_exact(3).enumerate() {
+        let leg = [point(&numbers[3 * m..]), point(ends), point(ends)];
+        let touches = |n: usize| {
+            let p = corner(&grid, n % nx, n / nx % ny, n / nx / ny);
+            is_filled(map, n) && as_printed(&leg, p, grid.edge)
+        };
+        if let Some(n) = (0..grid.count()).find(|n| touches(*n)) {
+            return Answer::Blocked {
+                leg: m as u8,
+                cell: n as u32,
+            };
+        }
+    }
+    Answer::Free
+}
+
+/// A route of any shape in a grid, or one that breaks a limit.
+fn any_route(random: &mut Random, grid: &Grid) -> Vec<i16> {
+    let count = match random.between(0, 9) {
+        0 => 1,
+        1 => 65,
+        2 => 64,
+        _ => random.between(2, 5),
+    };
+    let mut points: Vec<Point> = (0..count).map(|_| any_point(random, grid)).collect();
+    let at = random.between(0, count - 1) as usize;
+    match random.between(0, 9) {
+        0 => points[at][1] = grid.origin[1] - 1,
+        1 => points[at][2] = grid.origin[2] + grid.cells[2] as i64 * grid.edge + 1,
+        2 => points[at] = points[0],
+        _ => {}
+    }
+    let mut numbers = numbers(&points);
+    if random.between(0, 9) == 0 {
+        numbers.push(0);
+    }
+    numbers
+}
+
+/// Holds the peers to each other and, on small grids, to the rule as printed.
+pub fn check() {
+    let rails = Scene::rails();
+    let free = rails.agree(&route(&rails, "free"));
+    let blocked = rails.agree(&route(&rails, "blocked"));
+    assert!(free == Answer::Free, "{free:?}");
+    assert!(
+        matches!(blocked, Answer::Blocked { leg: 62, .. }),
+        "{blocked:?}"
+    );
+    let mut random = Random(4);
+    let mut counts = [0; 3];
+    let mut count = |answer: Answer| match answer {
+        Answer::Free => counts[0] += 1,
+        Answer::Blocked { .. } => counts[1] += 1,
+        Answer::Refused(_) => counts[2] += 1,
+    };
+    for _ in 0..300 {
+        count(rails.agree(&any_route(&mut random, &scenes::grid(64))));
+    }
+    for _ in 0..2000 {
+        let scene = Scene::new(scenes::any_file(&mut random)).unwrap();
+        let grid = Frame::read(&scene.file, scene.map.len()).ok().unwrap().grid;
+        let numbers = any_route(&mut random, &grid);
+        let answer = scene.agree(&numbers);
+        let expected = printed(&scene.file, &scene.map, &numbers);
+        assert!(answer == expected, "printed rule: {answer:?}, {expected:?}");
+        count(answer);
+    }
+    let [free, blocked, refused] = counts;
+    println!("{free} free, {blocked} blocked and {refused} refused routes: all alike");
+}
