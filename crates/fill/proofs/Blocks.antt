@@ -17,11 +17,11 @@ use Rattle.overlap.specs.Range.{inRange}
 use Rattle.fill.specs.Block.{inBlock, block, NonEmpty, Cut, Halved}
 
 -- ---- tests
-and-left : (p q : Bool) → (p && q) ≡ true → p ≡ true
+pub and-left : (p q : Bool) → (p && q) ≡ true → p ≡ true
 and-left true q e = refl
 and-left false q e = e
 
-and-right : (p q : Bool) → (p && q) ≡ true → q ≡ true
+pub and-right : (p q : Bool) → (p && q) ≡ true → q ≡ true
 and-right true q e = e
 and-right false q e = let z : _≡_ {A = ℕ} 0 1 = cc in absurd (omega arith)
 

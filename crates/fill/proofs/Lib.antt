@@ -2,4 +2,4 @@ pub mod Blocks
 pub mod Ways
 mod Triangles
 mod Ready
-mod Answers
+pub mod Answers

@@ -1,0 +1,88 @@
+-- What the code of a piece keeps, step by step.
+--     advance-none     no cell yet
+--     advance-more     one run of cells behind another
+--     advance-line     one cell, its line put
+--     advance-skip     cells without a line
+--     empty-byte       the cells of a zero byte have no line
+-- Assumes nothing.
+use mathlib.Core.Bool.{false}
+use mathlib.Core.List.{List, [], _++_}
+use mathlib.Core.Path.{_≡_, refl, sym, ap, _∙_}
+use Prim.Native.Nat.{ℕ, suc, _+_, _-_, _*_, _/_, _%_, _^_, _<_, _≤_}
+use native.Mathlib.Nat.{zero-div}
+use native.Mathlib.Omega.{arith}
+use lib.ListN.{length, getD, length-append}
+use Rattle.grid.specs.Map.{isFilled}
+use Rattle.listing.specs.Text.{placed, Puts}
+use Rattle.listing.specs.Listing.{cellLine, linesFrom, lineMost, stopAt, Advances}
+use Rattle.listing.proofs.Texts.{placed-none, placed-more, length-placed}
+use Rattle.listing.proofs.Lines.{lines-add, lines-one, lines-none, stop-step, stop-skip}
+
+module _ (line : ℕ → List ℕ) (count : ℕ) where
+  pub advance-skip : (from at next : ℕ) (old : List ℕ) → from ≤ next → next ≤ count → at + lineMost ≤ length old
+      → ((n : ℕ) → from ≤ n → n < next → line n ≡ []) → Advances line count from at old next at old
+  advance-skip from at next old forth within room none =
+      let k = next - from in
+      let none′ : (n : ℕ) → from ≤ n → n < from + k → line n ≡ [] = λ n l u. none n l (omega arith) in
+      let empty : linesFrom line from k ≡ [] = lines-none line from k none′ in
+      let ends : from + k ≡ next = omega arith in
+      let left : k + (count - next) ≡ count - from = omega arith in
+      record {
+        forth = forth;
+        room = omega arith;
+        bytes = rw empty (sym (placed-none old at));
+        moved = omega (arith, ap length empty);
+        stop = sym (ap (stopAt line (length old - at) from) (sym left) ∙ stop-skip line (length old - at) from (count - next) k (omega arith) none′ ∙ ap (λ (n : ℕ). stopAt line (length old - at) n (count - next)) ends);
+      }
+
+  pub advance-line : (from at behind : ℕ) (old new : List ℕ) → from < count → at + lineMost ≤ length old → length new ≡ length old → behind ≤ length old
+      → Puts old at (line from) new behind → Advances line count from at old (from + 1) behind new
+  advance-line from at behind old new some room same fits puts =
+      let single : from + 1 - from ≡ 1 = omega arith in
+      let one : linesFrom line from (from + 1 - from) ≡ line from = ap (linesFrom line from) single ∙ lines-one line from in
+      let left : suc (count - (from + 1)) ≡ count - from = omega arith in
+      let rest : length old - at - length (line from) ≡ length old - behind = omega (arith, puts .next) in
+      record {
+        forth = omega arith;
+        room = fits;
+        bytes = puts .bytes ∙ ap (placed old at) (sym one);
+        moved = omega (arith, puts .next, ap length one);
+        stop = sym (ap (stopAt line (length old - at) from) (sym left) ∙ stop-step line (length old - at) from (count - (from + 1)) (omega arith) ∙ ap (λ (r : ℕ). stopAt line r (from + 1) (count - (from + 1))) rest);
+      }
+
+  pub advance-none : (from : ℕ) (old : List ℕ) → Advances line count from 0 old from 0 old
+  unfolding linesFrom
+  advance-none from old =
+      let zero : from - from ≡ 0 = omega arith in
+      let none : linesFrom line from (from - from) ≡ [] = ap (linesFrom line from) zero in
+      record { forth = omega arith; room = omega arith; bytes = rw none (sym (placed-none old 0)); moved = omega (arith, ap length none); stop = refl }
+
+  pub advance-more : {from at mid behind next end : ℕ} {old m new : List ℕ} → Advances line count from at old mid behind m → Advances line count mid behind m next end new
+      → Advances line count from at old next end new
+  advance-more {from} {at} {mid} {behind} {next} {end} {old} {m} {new} p q =
+      let first = linesFrom line from (mid - from) in
+      let second = linesFrom line mid (next - mid) in
+      let long : length m ≡ length old = ap length (p .bytes) ∙ length-placed old at first (omega (arith, p .room, p .moved)) in
+      let parts : mid - from + (next - mid) ≡ next - from = omega (arith, p .forth, q .forth) in
+      let at-mid : from + (mid - from) ≡ mid = omega (arith, p .forth) in
+      let both : linesFrom line from (next - from) ≡ first ++ second =
+      ap (linesFrom line from) (sym parts) ∙ lines-add line from (mid - from) (next - mid) ∙ ap (λ (n : ℕ). first ++ linesFrom line n (next - mid)) at-mid in
+      record {
+        forth = omega (arith, p .forth, q .forth);
+        room = omega (arith, q .room);
+        bytes = q .bytes ∙ ap (λ (l : List ℕ). placed l behind second) (p .bytes) ∙ ap (λ (k : ℕ). placed (placed old at first) k second) (p .moved)
+            ∙ placed-more old at first second (omega (arith, p .room, p .moved)) ∙ ap (placed old at) (sym both);
+        moved = omega (arith, p .moved, q .moved, ap length both, length-append first second);
+        stop = ap (λ (k : ℕ). stopAt line (k - end) next (count - next)) (sym long) ∙ q .stop ∙ ap (λ (k : ℕ). stopAt line (k - behind) mid (count - mid)) long ∙ p .stop;
+      }
+
+empty-cell : (m : List ℕ) (n : ℕ) → getD m (n / 8) 0 ≡ 0 → isFilled m n ≡ false
+unfolding isFilled
+empty-cell m n e = rw (e, zero-div (2 ^ (7 - n % 8)))
+
+pub empty-byte : (m : List ℕ) (nx ny cell next : ℕ) → getD m (cell / 8) 0 ≡ 0 → next ≤ cell / 8 * 8 + 8
+    → (n : ℕ) → cell ≤ n → n < next → cellLine (isFilled m) nx ny n ≡ []
+unfolding cellLine
+empty-byte m nx ny cell next zero end n l u =
+    let same : n / 8 ≡ cell / 8 = omega arith in
+    rw (empty-cell m n (ap (λ (q : ℕ). getD m q 0) same ∙ zero))

@@ -1,0 +1,119 @@
+-- The pieces make the whole.
+--     next-cell        a piece goes on, where there is a cell and room for a longest line
+--     pieces-lines     pieces one after the other are the lines of the cells that they pass
+--     whole-listing    the first line and all pieces, whatever the lengths of the buffers, are the listing of the file
+-- Assumes nothing.
+use mathlib.Core.Bool.{Bool, true}
+use mathlib.Core.List.{List, [], _∷_, _++_}
+use mathlib.Core.Path.{_≡_, refl, sym, ap, _∙_}
+use Prim.Native.Nat.{ℕ, _+_, _-_, _<_, _≤_}
+use native.Mathlib.Omega.{arith}
+use borrow.Author.Tests.{lt-ltb, le-ltb, eqb-true}
+use lib.ListN.{length, take, drop}
+use lib.Seq.{take-append-seam}
+use Rattle.frame.specs.declared.Cells.{Cells}
+use Rattle.frame.specs.declared.Checked.{Checked}
+use Rattle.frame.specs.declared.Checked.the-variants.{Accepted, Refused}
+use Rattle.frame.specs.declared.Header.{Header}
+use Rattle.frame.specs.declared.Limit.{Limit}
+use Rattle.frame.specs.Questions.{checked}
+use Rattle.frame.proofs.Accepted.{AcceptedFile, accepted, map-most}
+use Rattle.grid.specs.Map.{mapLength, countBelow, mapOf}
+use Rattle.grid.proofs.Maps.{filled-map}
+use Rattle.fill.specs.declared.Filling.the-variants.{Filled}
+use Rattle.fill.specs.Steel.{gridAt, cellCount, steel, filledBy, filling, filledBytes}
+use Rattle.fill.proofs.Answers.{fill-passed}
+use Rattle.listing.specs.Text.{placed}
+use Rattle.listing.specs.Listing.{filledLine, cellLine, linesFrom, listing, firstMost, firstLine, begun, begunMap, begunBytes, lineMost, cellsIn, lineOf, nextCell, pieceText, pieces, reached, sent, allSent}
+use Rattle.listing.proofs.Lines.{lines-add, lines-same, stop-forth, stop-more}
+use Rattle.listing.proofs.Refused.{refused-filling}
+
+-- ---- pieces
+module _ (m : List ℕ) (c : Cells) where
+  next-forth : (from room : ℕ) → from ≤ nextCell m c from room
+  unfolding nextCell
+  next-forth from room = stop-forth (lineOf m c) room from (cellsIn c - from)
+
+  pub next-cell : (from room : ℕ) → lineMost ≤ room → from < cellsIn c → from < nextCell m c from room
+  unfolding nextCell
+  next-cell from room h some = stop-more (lineOf m c) room from (cellsIn c - from) h (omega arith)
+
+  reached-forth : (from : ℕ) (rooms : List ℕ) → from ≤ reached m c from rooms
+  unfolding reached
+  reached-forth from [] = omega arith
+  reached-forth from (room ∷ rooms) = omega (arith, next-forth from room, reached-forth (nextCell m c from room) rooms)
+
+  pub pieces-lines : (from : ℕ) (rooms : List ℕ) → pieces m c from rooms ≡ linesFrom (lineOf m c) from (reached m c from rooms - from)
+  unfolding pieces reached pieceText linesFrom
+  pieces-lines from [] =
+      let none : 0 ≡ from - from = omega arith in
+      ap (linesFrom (lineOf m c) from) none
+  pieces-lines from (room ∷ rooms) =
+      let line = lineOf m c in
+      let next = nextCell m c from room in
+      let end = reached m c next rooms in
+      let at : next ≡ from + (next - from) = omega (arith, next-forth from room) in
+      let both : next - from + (end - next) ≡ end - from = omega (arith, next-forth from room, reached-forth next rooms) in
+      ap (λ (l : List ℕ). linesFrom line from (next - from) ++ l) (pieces-lines next rooms ∙ ap (λ (n : ℕ). linesFrom line n (end - next)) at)
+      ∙ sym (lines-add line from (next - from) (end - next))
+      ∙ ap (linesFrom line from) both
+
+-- ---- the whole
+-- The text at the start of the bytes.
+front : (s t : List ℕ) → take (length t) (placed s 0 t) ≡ t
+unfolding placed
+front s t = take-append-seam t (drop (0 + length t) s)
+
+module _ (s m out rooms : List ℕ) (room : 32768 ≤ length m) (long : firstMost ≤ length out) where
+  abbrev Whole : Type 0
+  Whole = allSent (begun s m out) (begunMap s m out) rooms ≡ true → sent (begun s m out) (begunMap s m out) (begunBytes s m out) rooms ≡ listing s
+
+  refused : (l : Limit) → checked s ≡ Refused l → Whole
+  unfolding begun begunMap begunBytes listing firstLine
+  refused l e = rw (le-ltb (length out) firstMost long, refused-filling s m l e, e) (λ all. front out _)
+
+  module _ (h : Header) (e : checked s ≡ Accepted h) where
+    abbrev filled : ℕ → Bool
+    filled = filledBy (gridAt h) (steel s h)
+
+    file : AcceptedFile s h
+    file = accepted s h e
+
+    fits : mapLength (cellCount h) ≤ length m
+    fits = omega (arith, map-most file)
+
+    answer : filling s m ≡ Filled (countBelow filled (cellCount h))
+    unfolding filling
+    answer = rw (fill-passed s (length m) h e fits, file .header)
+
+    bytes : filledBytes s m ≡ mapOf filled (cellCount h) ++ drop (mapLength (cellCount h)) m
+    unfolding filledBytes
+    bytes = rw (fill-passed s (length m) h e fits, file .header)
+
+    -- The lines of the map are those of the file's filled cells.
+    same-line : (n : ℕ) → n < 0 + cellCount h → lineOf (filledBytes s m) (h .cells) n ≡ cellLine filled (h .cells .x) (h .cells .y) n
+    unfolding cellLine
+    same-line n l = rw (bytes, filled-map filled (cellCount h) (drop (mapLength (cellCount h)) m) n (omega arith), lt-ltb n (cellCount h) (omega arith))
+
+    all-lines : reached (filledBytes s m) (h .cells) 0 rooms ≡ cellCount h
+        → pieces (filledBytes s m) (h .cells) 0 rooms ≡ linesFrom (cellLine filled (h .cells .x) (h .cells .y)) 0 (cellCount h)
+    all-lines end =
+        let count : reached (filledBytes s m) (h .cells) 0 rooms - 0 ≡ cellCount h = omega arith in
+        pieces-lines (filledBytes s m) (h .cells) 0 rooms
+        ∙ ap (linesFrom (lineOf (filledBytes s m) (h .cells)) 0) count
+        ∙ lines-same (lineOf (filledBytes s m) (h .cells)) (cellLine filled (h .cells .x) (h .cells .y)) 0 (cellCount h) same-line
+
+    passed : Whole
+    unfolding begun begunMap begunBytes listing firstLine
+    passed =
+        let line = filledLine (countBelow filled (cellCount h)) (cellCount h) in
+        rw (le-ltb (length out) firstMost long, answer, file .header, e)
+        (λ all. ap (λ (t : List ℕ). t ++ pieces (filledBytes s m) (h .cells) 0 rooms) (front out line)
+        ∙ ap (λ (t : List ℕ). line ++ t) (all-lines (eqb-true (reached (filledBytes s m) (h .cells) 0 rooms) (cellCount h) all)))
+
+  pub whole-listing : allSent (begun s m out) (begunMap s m out) rooms ≡ true → sent (begun s m out) (begunMap s m out) (begunBytes s m out) rooms ≡ listing s
+  whole-listing = go (checked s) refl
+    where
+      go : (r : Checked) → checked s ≡ r → Whole
+      go (Refused l) e = refused l e
+      go (Accepted h) e = passed h e

@@ -1,0 +1,247 @@
+// The listing of a file's map as text: the first line, then the lines of the filled cells, piece by piece, into bytes
+// that the caller lends.
+use fill::Filling;
+use frame::Cells;
+use frame::Checked;
+use frame::Header;
+use frame::Limit;
+ghost use mathlib.Core.Bool.{true};
+ghost use mathlib.Core.List.{[], _∷_};
+ghost use mathlib.Core.Path.{_≡_};
+ghost use Prim.Native.Nat.{_+_, _-_, _*_, _/_, _<_, _≤_};
+ghost use lib.ListN.{length};
+ghost use Rattle.frame.specs.Questions.{checked};
+ghost use Rattle.frame.specs.declared.Checked.the-variants.{Accepted};
+ghost use Rattle.fill.specs.Steel.{filling, filledBytes};
+ghost use Rattle.grid.specs.Map.{isFilled};
+ghost use Rattle.listing.specs.Text.{decimal, placed, Puts};
+ghost use Rattle.listing.specs.Listing.{filledLine, refusedLine, placeLine, cellLine, firstMost, firstLine, begunBy, begun, begunMap, begunBytes, lineMost, stopAt, lineOf, cellsIn, sideFits, usable, piece, pieceBytes, Advances, Ready};
+
+// How a listing begins.
+pub enum Begun {
+    // So many bytes of the first line were put, and lines of these cells follow.
+    More(usize, Cells),
+    // So many bytes were put: the whole listing, a refusal.
+    Whole(usize),
+    // The output has fewer than 64 bytes. Nothing was changed.
+    ShortBuffer,
+}
+
+// What a call for more lines says.
+pub enum Piece {
+    // The cell to go on from, and how many bytes were put.
+    Written(usize, usize),
+    // A side of the grid has no cell or more than 64, or the map is shorter than its cells need. Nothing was changed.
+    Unusable,
+}
+
+// A cell, and a place in the output.
+struct Place {
+    cell: usize,
+    at: usize,
+}
+
+// Fills the map from the file, and puts the first line at the start of the output.
+pub fn begin(file: &[u8], map: &mut [u8], out: &mut [u8]) -> Begun
+    ensures { λ r. ⌜ (r ≡ begun (now (file .entry)) (now (map .entry)) (now (out .entry))) × (now (map .exit) ≡ begunMap (now (file .entry)) (now (map .entry)) (now (out .entry))) × (now (out .exit) ≡ begunBytes (now (file .entry)) (now (map .entry)) (now (out .entry))) ⌝ }
+{
+    if out.len() < 64 {
+        return Begun::ShortBuffer;
+    }
+    match frame::check(file) {
+        Checked::Refused(limit) => Begun::Whole(put_refused(out, limit)),
+        Checked::Accepted(header) => begin_accepted(file, header, map, out),
+    }
+}
+
+// The first line of an accepted file; the map may still be too short.
+fn begin_accepted(file: &[u8], header: Header, map: &mut [u8], out: &mut [u8]) -> Begun
+    requires { ⌜ (checked (now file) ≡ Accepted header) × (firstMost ≤ length (now out)) ⌝ }
+    ensures { λ r. ⌜ (r ≡ begunBy (filling (now (file .entry)) (now (map .entry))) header) × (now (map .exit) ≡ filledBytes (now (file .entry)) (now (map .entry))) × (now (out .exit) ≡ placed (now (out .entry)) 0 (firstLine (filling (now (file .entry)) (now (map .entry))) header)) ⌝ }
+{
+    let cells = header.cells;
+    let all = fill::cell_count(cells);
+    match fill::fill(file, map) {
+        Filling::Refused(limit) => Begun::Whole(put_refused(out, limit)),
+        Filling::Filled(count) => Begun::More(put_filled(out, count, all), cells),
+    }
+}
+
+// Puts the lines of the filled cells from cell `from` on, as long as the output has room for a longest line.
+pub fn more(map: &[u8], cells: Cells, from: usize, out: &mut [u8]) -> Piece
+    ensures { λ r. ⌜ (r ≡ piece (now (map .entry)) cells from (now (out .entry))) × (now (out .exit) ≡ pieceBytes (now (map .entry)) cells from (now (out .entry))) ⌝ }
+{
+    if is_usable(map, cells) {
+        let end = put_cells(map, cells, from, out);
+        Piece::Written(end.cell, end.at)
+    } else {
+        Piece::Unusable
+    }
+}
+
+// Has each side 1 to 64 cells, and is the map long enough?
+fn is_usable(map: &[u8], cells: Cells) -> bool
+    ensures { λ r. ⌜ r ≡ usable (length (now (map .entry))) cells ⌝ }
+{
+    if side_fits(cells.x) {
+        if side_fits(cells.y) {
+            if side_fits(cells.z) {
+                return grid::map_length(fill::cell_count(cells)) <= map.len();
+            }
+        }
+    }
+    false
+}
+
+// Is a side of 1 to 64 cells?
+fn side_fits(n: usize) -> bool
+    ensures { λ r. ⌜ r ≡ sideFits n ⌝ }
+{
+    if n < 1 {
+        return false;
+    }
+    n <= 64
+}
+
+// The lines from cell `from` on, and where they end.
+fn put_cells(map: &[u8], cells: Cells, from: usize, out: &mut [u8]) -> Place
+    requires { ⌜ usable (length (now map)) cells ≡ true ⌝ }
+    ensures { λ r. ⌜ Advances (lineOf (now (map .entry)) cells) (cellsIn cells) from 0 (now (out .entry)) (r .cell) (r .at) (now (out .exit)) × (r .cell ≡ stopAt (lineOf (now (map .entry)) cells) (length (now (out .entry))) from (cellsIn cells - from)) ⌝ }
+{
+    let all = fill::cell_count(cells);
+    let nx = cells.x;
+    let ny = cells.y;
+    let mut cell = from;
+    let mut at: usize = 0;
+    while cell < all {
+        if out.len() - at < 9 {
+            break;
+        }
+        let next = put_next(map, nx, ny, all, cell, out, at);
+        cell = next.cell;
+        at = next.at;
+    }
+    Place { cell, at }
+}
+
+// The line of one cell, or no line of all cells that are left in a byte of the map with no filled cell.
+fn put_next(
+    map: &[u8],
+    nx: usize,
+    ny: usize,
+    all: usize,
+    cell: usize,
+    out: &mut [u8],
+    at: usize,
+) -> Place
+    requires { ⌜ Ready nx ny all (length (now map)) × (cell < all) × (at + lineMost ≤ length (now out)) ⌝ }
+    ensures { λ r. ⌜ Advances (cellLine (isFilled (now (map .entry))) nx ny) all cell at (now (out .entry)) (r .cell) (r .at) (now (out .exit)) × (cell < r .cell) ⌝ }
+{
+    if map[cell / 8] == 0 {
+        return Place {
+            cell: byte_end(cell, all),
+            at,
+        };
+    }
+    let behind = put_cell(map, nx, ny, cell, out, at);
+    Place {
+        cell: cell + 1,
+        at: behind,
+    }
+}
+
+// The first cell behind the byte of a cell, or the end of all cells.
+fn byte_end(cell: usize, all: usize) -> usize
+    requires { ⌜ cell < all ⌝ }
+    ensures { λ r. ⌜ (cell < r) × (r ≤ all) × (r ≤ cell / 8 * 8 + 8) ⌝ }
+{
+    let first = cell / 8 * 8;
+    if all - first < 8 {
+        return all;
+    }
+    first + 8
+}
+
+// The line of a cell, if it is filled.
+fn put_cell(map: &[u8], nx: usize, ny: usize, cell: usize, out: &mut [u8], at: usize) -> usize
+    requires { ⌜ (0 < nx) × (nx ≤ 64) × (0 < ny) × (ny ≤ 64) × (cell < nx * ny * 64) × (cell < 8 * length (now map)) × (at + lineMost ≤ length (now out)) ⌝ }
+    ensures { λ r. ⌜ Puts (now (out .entry)) at (cellLine (isFilled (now (map .entry))) nx ny cell) (now (out .exit)) r × (r ≤ length (now (out .entry))) ⌝ }
+{
+    if grid::is_filled(map, cell) {
+        let row = cell / nx;
+        return put_place(out, at, cell % nx, row % ny, row / ny);
+    }
+    at
+}
+
+// "i j k"
+fn put_place(out: &mut [u8], at: usize, i: usize, j: usize, k: usize) -> usize
+    requires { ⌜ (i < 64) × (j < 64) × (k < 64) × (at + lineMost ≤ length (now out)) ⌝ }
+    ensures { λ r. ⌜ Puts (now (out .entry)) at (placeLine i j k) (now (out .exit)) r × (r ≤ length (now (out .entry))) ⌝ }
+{
+    let behind_i = put_number(out, at, i);
+    let second = put_byte(out, behind_i, 32);
+    let behind_j = put_number(out, second, j);
+    let third = put_byte(out, behind_j, 32);
+    let behind_k = put_number(out, third, k);
+    put_byte(out, behind_k, 10)
+}
+
+// "FILLED count OF cells"
+fn put_filled(out: &mut [u8], count: usize, cells: usize) -> usize
+    requires { ⌜ firstMost ≤ length (now out) ⌝ }
+    ensures { λ r. ⌜ Puts (now (out .entry)) 0 (filledLine count cells) (now (out .exit)) r ⌝ }
+{
+    let first = put_word(out, 0, b"FILLED ");
+    let behind_count = put_number(out, first, count);
+    let second = put_word(out, behind_count, b" OF ");
+    let behind_cells = put_number(out, second, cells);
+    put_byte(out, behind_cells, 10)
+}
+
+// "REFUSED number place"
+fn put_refused(out: &mut [u8], limit: Limit) -> usize
+    requires { ⌜ firstMost ≤ length (now out) ⌝ }
+    ensures { λ r. ⌜ Puts (now (out .entry)) 0 (refusedLine limit) (now (out .exit)) r ⌝ }
+{
+    let refusal = limit.refusal();
+    let first = put_word(out, 0, b"REFUSED ");
+    let behind_number = put_number(out, first, refusal.number as usize);
+    let second = put_byte(out, behind_number, 32);
+    let behind_place = put_number(out, second, refusal.place);
+    put_byte(out, behind_place, 10)
+}
+
+// A number in base ten.
+fn put_number(out: &mut [u8], at: usize, n: usize) -> usize
+    requires { ⌜ at + length (decimal n) ≤ length (now out) ⌝ }
+    ensures { λ r. ⌜ Puts (now (out .entry)) at (decimal n) (now (out .exit)) r ⌝ }
+{
+    if n < 10 {
+        return put_byte(out, at, 48 + n as u8);
+    }
+    let last = put_number(out, at, n / 10);
+    put_byte(out, last, 48 + (n % 10) as u8)
+}
+
+// The bytes of a word.
+fn put_word(out: &mut [u8], at: usize, word: &[u8]) -> usize
+    requires { ⌜ at + length (now word) ≤ length (now out) ⌝ }
+    ensures { λ r. ⌜ Puts (now (out .entry)) at (now (word .entry)) (now (out .exit)) r ⌝ }
+{
+    let mut i = 0;
+    while i < word.len() {
+        out[at + i] = word[i];
+        i += 1;
+    }
+    at + i
+}
+
+// One byte.
+fn put_byte(out: &mut [u8], at: usize, b: u8) -> usize
+    requires { ⌜ at < length (now out) ⌝ }
+    ensures { λ r. ⌜ Puts (now (out .entry)) at (b ∷ []) (now (out .exit)) r ⌝ }
+{
+    out[at] = b;
+    at + 1
+}
