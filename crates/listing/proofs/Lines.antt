@@ -1,8 +1,9 @@
 -- Laws of lines of cells, and of the cell at which a piece stops.
 --     lines-add, -one, -none   of two runs of cells, of one cell, and of cells without a line
 --     lines-same               lines that agree
---     stop-here, -step, -skip  a piece stops here, after one cell more, and behind cells without a line
---     stop-forth, -within      a piece stops behind its first cell and before the last
+--     stop-here, -end          a piece stops where there is no room for a line, and at the end of the cells
+--     stop-step, -skip         it goes on behind a cell, and behind cells without a line
+--     stop-forth               a piece stops at its first cell or behind it
 --     stop-more                where there is a cell and room for a line, it goes on
 -- Assumes nothing.
 use mathlib.Core.List.{List, [], _++_, append-assoc, append-nil}
@@ -73,14 +74,6 @@ module _ (line : ℕ → List ℕ) where
   stop-forth room from (suc count) = go (decLt room lineMost) (stop-forth (room - length (line from)) (from + 1) count)
     where
       go : Dec (room < lineMost) → from + 1 ≤ stopAt line (room - length (line from)) (from + 1) count → from ≤ stopAt line room from (suc count)
-      go (yes l) ih = rw (stop-here room from (suc count) l) (omega arith)
-      go (no l) ih = rw (stop-step room from count (omega arith)) (omega arith)
-
-  pub stop-within : (room from count : ℕ) → stopAt line room from count ≤ from + count
-  stop-within room from zero = rw (stop-end room from) (omega arith)
-  stop-within room from (suc count) = go (decLt room lineMost) (stop-within (room - length (line from)) (from + 1) count)
-    where
-      go : Dec (room < lineMost) → stopAt line (room - length (line from)) (from + 1) count ≤ from + 1 + count → stopAt line room from (suc count) ≤ from + suc count
       go (yes l) ih = rw (stop-here room from (suc count) l) (omega arith)
       go (no l) ih = rw (stop-step room from count (omega arith)) (omega arith)
 

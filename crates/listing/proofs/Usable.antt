@@ -1,11 +1,12 @@
 -- What a usable grid has.
 --     usable-grid      1 to 64 cells a side, and room in the map
 --     ready            so the code of a piece can take it
+--     most-cells       its cells in all
 -- Assumes nothing.
 use mathlib.Core.Bool.{true, _&&_}
 use mathlib.Core.Path.{_≡_}
 use Prim.Native.Nat.{ℕ, _*_, _≤_}
-use native.Mathlib.Nat.{mul-le-mul-left}
+use native.Mathlib.Nat.{mul-le-mul, mul-le-mul-left}
 use native.Mathlib.Omega.{arith}
 use borrow.Author.Tests.{leb-true}
 use lib.Dec.{leb}
@@ -52,3 +53,6 @@ module _ (len : ℕ) (c : Cells) where
     layers = mul-le-mul-left (c .x * c .y) (u .z .most);
     room = omega (arith, u .room);
   }
+
+  pub most-cells : UsableGrid len c → cellsIn c ≤ 64 * 64 * 64
+  most-cells u = mul-le-mul (mul-le-mul (u .x .most) (u .y .most)) (u .z .most)

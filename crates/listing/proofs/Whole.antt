@@ -1,14 +1,16 @@
 -- The pieces make the whole.
 --     next-cell        a piece goes on, where there is a cell and room for a longest line
+--     goes-on          so a piece that leaves cells for the next one has passed a cell
 --     pieces-lines     pieces one after the other are the lines of the cells that they pass
 --     whole-listing    the first line and all pieces, whatever the lengths of the buffers, are the listing of the file
 -- Assumes nothing.
-use mathlib.Core.Bool.{Bool, true}
+use mathlib.Core.Bool.{Bool, true, false, cond}
 use mathlib.Core.List.{List, [], _∷_, _++_}
 use mathlib.Core.Path.{_≡_, refl, sym, ap, _∙_}
 use Prim.Native.Nat.{ℕ, _+_, _-_, _<_, _≤_}
 use native.Mathlib.Omega.{arith}
-use borrow.Author.Tests.{lt-ltb, le-ltb, eqb-true}
+use borrow.Author.Tests.{lt-ltb, le-ltb, ltb-true, eqb-true}
+use lib.Dec.{ltb}
 use lib.ListN.{length, take, drop}
 use lib.Seq.{take-append-seam}
 use Rattle.frame.specs.declared.Cells.{Cells}
@@ -23,10 +25,12 @@ use Rattle.grid.proofs.Maps.{filled-map}
 use Rattle.fill.specs.declared.Filling.the-variants.{Filled}
 use Rattle.fill.specs.Steel.{gridAt, cellCount, steel, filledBy, filling, filledBytes}
 use Rattle.fill.proofs.Answers.{fill-passed}
+use Rattle.listing.specs.declared.Piece.the-variants.{Written, Last, Unusable}
 use Rattle.listing.specs.Text.{placed}
-use Rattle.listing.specs.Listing.{filledLine, cellLine, linesFrom, listing, firstMost, firstLine, begun, begunMap, begunBytes, lineMost, cellsIn, lineOf, nextCell, pieceText, pieces, reached, sent, allSent}
+use Rattle.listing.specs.Listing.{filledLine, cellLine, linesFrom, listing, firstMost, firstLine, begun, begunMap, begunBytes, lineMost, cellsIn, lineOf, usable, nextCell, pieceText, piece, pieces, reached, sent, allSent}
 use Rattle.listing.proofs.Lines.{lines-add, lines-same, stop-forth, stop-more}
 use Rattle.listing.proofs.Refused.{refused-filling}
+use Rattle.listing.proofs.Usable.{usable-grid, most-cells}
 
 -- ---- pieces
 module _ (m : List ℕ) (c : Cells) where
@@ -37,6 +41,25 @@ module _ (m : List ℕ) (c : Cells) where
   pub next-cell : (from room : ℕ) → lineMost ≤ room → from < cellsIn c → from < nextCell m c from room
   unfolding nextCell
   next-cell from room h some = stop-more (lineOf m c) room from (cellsIn c - from) h (omega arith)
+
+  -- A piece that leaves cells for the next one has passed a cell.
+  pub goes-on : (from : ℕ) (out : List ℕ) (next len : ℕ) → lineMost ≤ length out → piece m c from out ≡ Written next len → (from < next) × (next < 262144)
+  unfolding piece
+  goes-on from out next len h e = go (usable (length m) c) (ltb stop (cellsIn c)) refl refl e
+    where
+      stop : ℕ
+      stop = nextCell m c from (length out)
+
+      go : (u l : Bool) → usable (length m) c ≡ u → ltb stop (cellsIn c) ≡ l
+          → cond u (cond l (Written stop (length (pieceText m c from (length out)))) (Last (length (pieceText m c from (length out))))) Unusable ≡ Written next len
+          → (from < next) × (next < 262144)
+      go true true u l e =
+          let same : stop ≡ next = cc in
+          let below : stop < cellsIn c = ltb-true stop (cellsIn c) l in
+          let some : from < stop = next-cell from (length out) h (omega (arith, next-forth from (length out))) in
+          (omega arith, omega (arith, most-cells (length m) c (usable-grid (length m) c u)))
+      go true false u l e = let z : _≡_ {A = ℕ} 0 1 = cc in absurd (omega arith)
+      go false l u _ e = let z : _≡_ {A = ℕ} 0 1 = cc in absurd (omega arith)
 
   reached-forth : (from : ℕ) (rooms : List ℕ) → from ≤ reached m c from rooms
   unfolding reached

@@ -22,7 +22,7 @@ use Rattle.fill.specs.Steel.{gridAt, cellCount, steel, filledBy, filling, fille
 use Rattle.listing.specs.declared.Begun.{Begun}
 use Rattle.listing.specs.declared.Begun.the-variants.{More, Whole, ShortBuffer}
 use Rattle.listing.specs.declared.Piece.{Piece}
-use Rattle.listing.specs.declared.Piece.the-variants.{Written, Unusable}
+use Rattle.listing.specs.declared.Piece.the-variants.{Written, Last, Unusable}
 use Rattle.listing.specs.Text.{decimal, space, lineFeed, filledWord, ofWord, refusedWord, placed}
 
 -- ---- lines
@@ -109,9 +109,13 @@ nextCell m c from room = stopAt (lineOf m c) room from (cellsIn c - from)
 unfoldable pub pieceText : (map : List ℕ) → Cells → (from room : ℕ) → List ℕ
 pieceText m c from room = linesFrom (lineOf m c) from (nextCell m c from room - from)
 
+-- Cells are left, or none.
+abbrev pub pieceBy : (next all len : ℕ) → Piece
+pieceBy next all len = cond (ltb next all) (Written next len) (Last len)
+
 -- The answer for a map, its grid, the cell to begin at and an output buffer, and the bytes of that buffer afterwards.
 unfoldable pub piece : (map : List ℕ) → Cells → ℕ → (out : List ℕ) → Piece
-piece m c from out = cond (usable (length m) c) (Written (nextCell m c from (length out)) (length (pieceText m c from (length out)))) Unusable
+piece m c from out = cond (usable (length m) c) (pieceBy (nextCell m c from (length out)) (cellsIn c) (length (pieceText m c from (length out)))) Unusable
 
 unfoldable pub pieceBytes : (map : List ℕ) → Cells → ℕ → (out : List ℕ) → List ℕ
 pieceBytes m c from out = cond (usable (length m) c) (placed out 0 (pieceText m c from (length out))) out

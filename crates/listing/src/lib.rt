@@ -31,6 +31,8 @@ pub enum Begun {
 pub enum Piece {
     // The cell to go on from, and how many bytes were put.
     Written(usize, usize),
+    // So many bytes were put, and no cell is left.
+    Last(usize),
     // A side of the grid has no cell or more than 64, or the map is shorter than its cells need. Nothing was changed.
     Unusable,
 }
@@ -73,10 +75,12 @@ pub fn more(map: &[u8], cells: Cells, from: usize, out: &mut [u8]) -> Piece
 {
     if is_usable(map, cells) {
         let end = put_cells(map, cells, from, out);
-        Piece::Written(end.cell, end.at)
-    } else {
-        Piece::Unusable
+        if end.cell < fill::cell_count(cells) {
+            return Piece::Written(end.cell, end.at);
+        }
+        return Piece::Last(end.at);
     }
+    Piece::Unusable
 }
 
 // Has each side 1 to 64 cells, and is the map long enough?

@@ -1,37 +1,70 @@
 -- `listing::more` meets its contract. Assumes nothing.
 use borrow.Author.Needs.{needs}
+use borrow.Author.Tests.{lt-ltb, le-ltb}
 use mathlib.Core.Bool.{true}
 use mathlib.Core.List.{List}
 use mathlib.Core.Path.{_≡_, refl, sym, ap, _∙_}
-use Prim.Native.Nat.{ℕ, _-_}
+use Prim.Native.Nat.{ℕ, _-_, _<_, _≤_}
 use native.Mathlib.Omega.{arith}
 use lib.ListN.{length}
-use Rattle.listing.specs.declared.Piece.the-variants.{Written}
 use Rattle.listing.specs.Text.{placed}
-use Rattle.listing.specs.Listing.{linesFrom, lineOf, usable, nextCell, pieceText, piece, pieceBytes}
+use Rattle.listing.specs.Listing.{linesFrom, lineOf, usable, cellsIn, nextCell, pieceText, pieceBy, piece, pieceBytes}
+use Rattle.listing.proofs.Usable.{usable-grid}
 use Rattle.listing.proofs.more.Statement.{statement}
 use Rattle.listing.proofs.more.Tie as tie
 
-grid : (c : tie.Then1) → let a = c .before .before .before .before .args in usable (length (a .map .now)) (a .cells) ≡ true
-grid c = sym (c .before .is-usable .ensures) ∙ c .if1 .taken
+test : (c : tie.Then1) → let a = c .before .before .before .before .args in usable (length (a .map .now)) (a .cells) ≡ true
+test c = sym (c .before .is-usable .ensures) ∙ c .if1 .taken
+
+-- what was put, by the definition of a piece
+put : (c : tie.After-put-cells) → let a = c .before .before .before .before .before .before .args in
+    (pieceBy (c .put-cells .result .cell) (cellsIn (a .cells)) (c .put-cells .result .at) ≡ piece (a .map .now) (a .cells) (a .from) (a .out .now))
+    × (c .put-cells .last .1 .1 .1 .0 ≡ pieceBytes (a .map .now) (a .cells) (a .from) (a .out .now))
+unfolding piece pieceBytes nextCell pieceText
+put c =
+    let t = c .before .before in
+    let a = t .before .before .before .before .args in
+    let p = c .put-cells .ensures .0 in
+    let end = c .put-cells .ensures .1 in
+    let next = c .put-cells .result .cell in
+    let text : ℕ → List ℕ = λ n. linesFrom (lineOf (a .map .now) (a .cells)) (a .from) (n - a .from) in
+    let len : c .put-cells .result .at ≡ length (text next) = omega (arith, p .moved) in
+    rw (test t) (
+      ap (pieceBy next (cellsIn (a .cells))) len ∙ ap (λ (n : ℕ). pieceBy n (cellsIn (a .cells)) (length (text n))) end,
+      p .bytes ∙ ap (λ (n : ℕ). placed (a .out .now) 0 (text n)) end,
+    )
+
+cell-count-requires : tie.Need-cell-count-requires
+cell-count-requires c κs =
+    let t = c .before .before .before .before in
+    let g = usable-grid _ _ (test t) in
+    (g .x .most, g .y .most, g .z .most)
 
 returns : tie.Need-returns
-unfolding piece pieceBytes nextCell pieceText
 returns c =
-    let put = c .before .before in
-    let test = put .before .before in
-    let a = test .before .before .before .before .args in
-    let line = lineOf (a .map .now) (a .cells) in
-    let p = put .put-cells .ensures .0 in
-    let end = put .put-cells .ensures .1 in
-    let next = put .put-cells .result .cell in
-    let text : ℕ → List ℕ = λ n. linesFrom line (a .from) (n - a .from) in
-    let len : put .put-cells .result .at ≡ length (text next) = omega (arith, p .moved) in
-    rw (grid test) (ap (Written next) len ∙ ap (λ (n : ℕ). Written n (length (text n))) end, p .bytes ∙ ap (λ (n : ℕ). placed (a .out .now) 0 (text n)) end)
+    let k = c .before .before in
+    let p = put (k .before .before .before) in
+    (rw (lt-ltb _ _ (rw (k .cell-count .ensures .0) at (c .if2 .taken))) at (p .0), p .1)
 
 returns-2 : tie.Need-returns-2
+returns-2 c =
+    let k = c .before .before in
+    let p = put (k .before .before .before) in
+    (rw (le-ltb _ _ (rw (k .cell-count .ensures .0) at (c .if2 .left))) at (p .0), p .1)
+
+returns-3 : tie.Need-returns-3
 unfolding piece pieceBytes
-returns-2 c = rw (sym (c .before .is-usable .ensures) ∙ c .if1 .left) (refl, refl)
+returns-3 c = rw (sym (c .before .is-usable .ensures) ∙ c .if1 .left) (refl, refl)
 
 pub more-spec : {M : Type 1} → statement M
-more-spec = tie.close (tie.spec (λ c κs. search needs) (λ c κs. grid (c .before)) (λ c. search needs) returns returns-2)
+more-spec =
+    tie.close
+    (tie.spec
+    (λ c κs. search needs)
+    (λ c κs. test (c .before))
+    cell-count-requires
+    (λ c. search needs)
+    returns
+    (λ c. search needs)
+    returns-2
+    returns-3)

@@ -1,0 +1,15 @@
+-- `list_map::send` meets its contract: the part lies in the buffer. Assumes nothing.
+use borrow.Author.Needs.{needs}
+use mathlib.Core.Path.{sym}
+use lib.Seq.{length-take-le}
+use Rattle.list_map.proofs.send.Statement.{statement}
+use Rattle.list_map.proofs.send.Tie as tie
+
+pub send-spec : {M : Type 1} → statement M
+send-spec =
+    tie.close
+    (tie.spec
+    (λ c. sym (length-take-le (c .before .before .before .args .len) (c .before .before .before .args .out .now) (c .before .if1 .taken)))
+    (λ c κs. search needs)
+    (λ c. search needs)
+    (λ c. search needs))

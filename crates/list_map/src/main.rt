@@ -1,0 +1,66 @@
+// The map lister: a frame file from standard input, the listing of its map to standard output.
+use frame::Cells;
+use libc::STDIN_FILENO;
+use libc::STDOUT_FILENO;
+use listing::Begun;
+use listing::Piece;
+ghost use Prim.Native.Nat.{_≤_};
+ghost use lib.ListN.{length};
+
+// Lends the memory: one byte more than the longest file that can be accepted, the largest map, and lines to write.
+fn main() {
+    let mut file = [0u8; 65533];
+    let mut map = [0u8; 32768];
+    let mut out = io::large_buffer();
+    list(&mut file, &mut map, &mut out);
+}
+
+// Reads the file, and writes its listing. Nothing is written before the file is read and the map is filled.
+fn list(file: &mut [u8], map: &mut [u8], out: &mut [u8])
+    requires { ⌜ 64 ≤ length (now out) ⌝ }
+{
+    let len = io::read_full(STDIN_FILENO, file);
+    match listing::begin(&file[..len], map, out) {
+        Begun::More(first, cells) => {
+            if send(out, first) {
+                list_cells(map, cells, out);
+            }
+        }
+        Begun::Whole(first) => {
+            send(out, first);
+        }
+        Begun::ShortBuffer => {}
+    }
+}
+
+// Writes the lines of the filled cells, one buffer after the other, until a write fails.
+fn list_cells(map: &[u8], cells: Cells, out: &mut [u8])
+    requires { ⌜ 64 ≤ length (now out) ⌝ }
+{
+    let mut from = 0;
+    loop {
+        match listing::more(map, cells, from, out) {
+            Piece::Written(next, len) => {
+                if !send(out, len) {
+                    return;
+                }
+                from = next;
+            }
+            Piece::Last(len) => {
+                send(out, len);
+                return;
+            }
+            Piece::Unusable => {
+                return;
+            }
+        }
+    }
+}
+
+// Writes the first len bytes, and answers whether all were taken. No listing gives more bytes than the buffer has.
+fn send(out: &[u8], len: usize) -> bool {
+    if len <= out.len() {
+        return io::write_all(STDOUT_FILENO, &out[..len]);
+    }
+    false
+}
