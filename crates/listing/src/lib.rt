@@ -43,7 +43,8 @@ struct Place {
     at: usize,
 }
 
-// Fills the map from the file, and puts the first line at the start of the output.
+// Fills the map from the file, and puts the first line at the start of the output. No first line is longer than 64
+// bytes.
 pub fn begin(file: &[u8], map: &mut [u8], out: &mut [u8]) -> Begun
     ensures { λ r. ⌜ (r ≡ begun (now (file .entry)) (now (map .entry)) (now (out .entry))) × (now (map .exit) ≡ begunMap (now (file .entry)) (now (map .entry)) (now (out .entry))) × (now (out .exit) ≡ begunBytes (now (file .entry)) (now (map .entry)) (now (out .entry))) ⌝ }
 {
@@ -56,7 +57,7 @@ pub fn begin(file: &[u8], map: &mut [u8], out: &mut [u8]) -> Begun
     }
 }
 
-// The first line of an accepted file; the map may still be too short.
+// Begins the listing of an accepted file; the map may still be too short.
 fn begin_accepted(file: &[u8], header: Header, map: &mut [u8], out: &mut [u8]) -> Begun
     requires { ⌜ (checked (now file) ≡ Accepted header) × (firstMost ≤ length (now out)) ⌝ }
     ensures { λ r. ⌜ (r ≡ begunBy (filling (now (file .entry)) (now (map .entry))) header) × (now (map .exit) ≡ filledBytes (now (file .entry)) (now (map .entry))) × (now (out .exit) ≡ placed (now (out .entry)) 0 (firstLine (filling (now (file .entry)) (now (map .entry))) header)) ⌝ }
@@ -69,7 +70,8 @@ fn begin_accepted(file: &[u8], header: Header, map: &mut [u8], out: &mut [u8]) -
     }
 }
 
-// Puts the lines of the filled cells from cell `from` on, as long as the output has room for a longest line.
+// Puts the lines of the filled cells from cell `from` on, as long as the output has room for a longest line. Such a
+// line, "63 63 63" and its line feed, has 9 bytes.
 pub fn more(map: &[u8], cells: Cells, from: usize, out: &mut [u8]) -> Piece
     ensures { λ r. ⌜ (r ≡ piece (now (map .entry)) cells from (now (out .entry))) × (now (out .exit) ≡ pieceBytes (now (map .entry)) cells from (now (out .entry))) ⌝ }
 {
@@ -107,7 +109,7 @@ fn side_fits(n: usize) -> bool
     n <= 64
 }
 
-// The lines from cell `from` on, and where they end.
+// Puts the lines from cell `from` on, and answers where they end.
 fn put_cells(map: &[u8], cells: Cells, from: usize, out: &mut [u8]) -> Place
     requires { ⌜ usable (length (now map)) cells ≡ true ⌝ }
     ensures { λ r. ⌜ Advances (lineOf (now (map .entry)) cells) (cellsIn cells) from 0 (now (out .entry)) (r .cell) (r .at) (now (out .exit)) × (r .cell ≡ stopAt (lineOf (now (map .entry)) cells) (length (now (out .entry))) from (cellsIn cells - from)) ⌝ }
@@ -128,7 +130,8 @@ fn put_cells(map: &[u8], cells: Cells, from: usize, out: &mut [u8]) -> Place
     Place { cell, at }
 }
 
-// The line of one cell, or no line of all cells that are left in a byte of the map with no filled cell.
+// Puts the line of one cell, if it is filled; or passes over all cells that are left in a byte of the map with no
+// filled cell.
 fn put_next(
     map: &[u8],
     nx: usize,
@@ -166,7 +169,7 @@ fn byte_end(cell: usize, all: usize) -> usize
     first + 8
 }
 
-// The line of a cell, if it is filled.
+// Puts the line of a cell, if it is filled, and answers the place behind it.
 fn put_cell(map: &[u8], nx: usize, ny: usize, cell: usize, out: &mut [u8], at: usize) -> usize
     requires { ⌜ (0 < nx) × (nx ≤ 64) × (0 < ny) × (ny ≤ 64) × (cell < nx * ny * 64) × (cell < 8 * length (now map)) × (at + lineMost ≤ length (now out)) ⌝ }
     ensures { λ r. ⌜ Puts (now (out .entry)) at (cellLine (isFilled (now (map .entry))) nx ny cell) (now (out .exit)) r × (r ≤ length (now (out .entry))) ⌝ }
@@ -178,7 +181,7 @@ fn put_cell(map: &[u8], nx: usize, ny: usize, cell: usize, out: &mut [u8], at: u
     at
 }
 
-// "i j k"
+// Puts "i j k".
 fn put_place(out: &mut [u8], at: usize, i: usize, j: usize, k: usize) -> usize
     requires { ⌜ (i < 64) × (j < 64) × (k < 64) × (at + lineMost ≤ length (now out)) ⌝ }
     ensures { λ r. ⌜ Puts (now (out .entry)) at (placeLine i j k) (now (out .exit)) r × (r ≤ length (now (out .entry))) ⌝ }
@@ -191,7 +194,7 @@ fn put_place(out: &mut [u8], at: usize, i: usize, j: usize, k: usize) -> usize
     put_byte(out, behind_k, 10)
 }
 
-// "FILLED count OF cells"
+// Puts "FILLED count OF cells".
 fn put_filled(out: &mut [u8], count: usize, cells: usize) -> usize
     requires { ⌜ firstMost ≤ length (now out) ⌝ }
     ensures { λ r. ⌜ Puts (now (out .entry)) 0 (filledLine count cells) (now (out .exit)) r ⌝ }
@@ -203,7 +206,7 @@ fn put_filled(out: &mut [u8], count: usize, cells: usize) -> usize
     put_byte(out, behind_cells, 10)
 }
 
-// "REFUSED number place"
+// Puts "REFUSED number place".
 fn put_refused(out: &mut [u8], limit: Limit) -> usize
     requires { ⌜ firstMost ≤ length (now out) ⌝ }
     ensures { λ r. ⌜ Puts (now (out .entry)) 0 (refusedLine limit) (now (out .exit)) r ⌝ }
@@ -216,7 +219,7 @@ fn put_refused(out: &mut [u8], limit: Limit) -> usize
     put_byte(out, behind_place, 10)
 }
 
-// A number in base ten.
+// Puts a number in base ten: the digits of its tenth, then its last digit.
 fn put_number(out: &mut [u8], at: usize, n: usize) -> usize
     requires { ⌜ at + length (decimal n) ≤ length (now out) ⌝ }
     ensures { λ r. ⌜ Puts (now (out .entry)) at (decimal n) (now (out .exit)) r ⌝ }
@@ -228,7 +231,7 @@ fn put_number(out: &mut [u8], at: usize, n: usize) -> usize
     put_byte(out, last, 48 + (n % 10) as u8)
 }
 
-// The bytes of a word.
+// Puts the bytes of a word.
 fn put_word(out: &mut [u8], at: usize, word: &[u8]) -> usize
     requires { ⌜ at + length (now word) ≤ length (now out) ⌝ }
     ensures { λ r. ⌜ Puts (now (out .entry)) at (now (word .entry)) (now (out .exit)) r ⌝ }
@@ -241,7 +244,7 @@ fn put_word(out: &mut [u8], at: usize, word: &[u8]) -> usize
     at + i
 }
 
-// One byte.
+// Puts one byte, and answers the place behind it.
 fn put_byte(out: &mut [u8], at: usize, b: u8) -> usize
     requires { ⌜ at < length (now out) ⌝ }
     ensures { λ r. ⌜ Puts (now (out .entry)) at (b ∷ []) (now (out .exit)) r ⌝ }
