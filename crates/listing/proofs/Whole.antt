@@ -2,32 +2,36 @@
 --     next-cell        a piece goes on, where there is a cell and room for a longest line
 --     goes-on          so a piece that leaves cells for the next one has passed a cell
 --     pieces-lines     pieces one after the other are the lines of the cells that they pass
+--     begun-usable     after an accepted file, its grid is usable with its map
 --     whole-listing    the first line and all pieces, whatever the lengths of the buffers, are the listing of the file
 -- Assumes nothing.
 use mathlib.Core.Bool.{Bool, true, false, cond}
 use mathlib.Core.List.{List, [], _∷_, _++_}
-use mathlib.Core.Path.{_≡_, refl, sym, ap, _∙_}
+use mathlib.Core.Path.{_≡_, refl, sym, ap, _∙_, subst}
 use Prim.Native.Nat.{ℕ, _+_, _-_, _<_, _≤_}
 use native.Mathlib.Omega.{arith}
-use borrow.Author.Tests.{lt-ltb, le-ltb, ltb-true, eqb-true}
+use borrow.Author.Tests.{lt-ltb, le-ltb, le-leb, ltb-true, eqb-true}
 use lib.Dec.{ltb}
-use lib.ListN.{length, take, drop}
+use lib.ListN.{length, take, drop, length-append}
 use lib.Seq.{take-append-seam}
 use Rattle.frame.specs.declared.Cells.{Cells}
 use Rattle.frame.specs.declared.Checked.{Checked}
 use Rattle.frame.specs.declared.Checked.the-variants.{Accepted, Refused}
 use Rattle.frame.specs.declared.Header.{Header}
 use Rattle.frame.specs.declared.Limit.{Limit}
+use Rattle.frame.specs.Fields.{headerOf}
+use Rattle.frame.specs.Layout.{version1}
 use Rattle.frame.specs.Questions.{checked}
 use Rattle.frame.proofs.Accepted.{AcceptedFile, accepted, map-most}
 use Rattle.grid.specs.Map.{mapLength, countBelow, mapOf}
-use Rattle.grid.proofs.Maps.{filled-map}
+use Rattle.grid.proofs.Maps.{length-map, filled-map}
 use Rattle.fill.specs.declared.Filling.the-variants.{Filled}
 use Rattle.fill.specs.Steel.{gridAt, cellCount, steel, filledBy, filling, filledBytes}
 use Rattle.fill.proofs.Answers.{fill-passed}
+use Rattle.listing.specs.declared.Begun.the-variants.{More}
 use Rattle.listing.specs.declared.Piece.the-variants.{Written, Last, Unusable}
 use Rattle.listing.specs.Text.{placed}
-use Rattle.listing.specs.Listing.{filledLine, cellLine, linesFrom, listing, firstMost, firstLine, begun, begunMap, begunBytes, lineMost, cellsIn, lineOf, usable, nextCell, pieceText, piece, pieces, reached, sent, allSent}
+use Rattle.listing.specs.Listing.{filledLine, cellLine, linesFrom, listing, firstMost, firstLine, begunBy, begun, begunMap, begunBytes, lineMost, cellsIn, lineOf, usable, nextCell, pieceText, piece, pieces, reached, sent, allSent}
 use Rattle.listing.proofs.Lines.{lines-add, lines-same, stop-forth, stop-more}
 use Rattle.listing.proofs.Refused.{refused-filling}
 use Rattle.listing.proofs.Usable.{usable-grid, most-cells}
@@ -113,6 +117,24 @@ module _ (s m out rooms : List ℕ) (room : 32768 ≤ length m) (long : firstMos
     unfolding filledBytes
     bytes = rw (fill-passed s (length m) h e fits, file .header)
 
+    -- The grid is usable with the map.
+    grid-usable : usable (length (filledBytes s m)) (h .cells) ≡ true
+    unfolding usable
+    grid-usable =
+        let map = mapOf filled (cellCount h) in
+        let rest = drop (mapLength (cellCount h)) m in
+        let whole : mapLength (cellCount h) ≤ length (map ++ rest) = omega (arith, length-append map rest, length-map filled (cellCount h)) in
+        rw (
+          bytes,
+          le-leb 1 (h .cells .x) (file .x .some),
+          le-leb (h .cells .x) 64 (file .x .most),
+          le-leb 1 (h .cells .y) (file .y .some),
+          le-leb (h .cells .y) 64 (file .y .most),
+          le-leb 1 (h .cells .z) (file .z .some),
+          le-leb (h .cells .z) 64 (file .z .most),
+          le-leb (mapLength (cellCount h)) (length (map ++ rest)) whole,
+        )
+
     -- The lines of the map are those of the file's filled cells.
     same-line : (n : ℕ) → n < 0 + cellCount h → lineOf (filledBytes s m) (h .cells) n ≡ cellLine filled (h .cells .x) (h .cells .y) n
     unfolding cellLine
@@ -133,6 +155,15 @@ module _ (s m out rooms : List ℕ) (room : 32768 ≤ length m) (long : firstMos
         rw (le-ltb (length out) firstMost long, answer, file .header, e)
         (λ all. ap (λ (t : List ℕ). t ++ pieces (filledBytes s m) (h .cells) 0 rooms) (front out line)
         ∙ ap (λ (t : List ℕ). line ++ t) (all-lines (eqb-true (reached (filledBytes s m) (h .cells) 0 rooms) (cellCount h) all)))
+
+  -- What follows an accepted file can be asked for: its grid is usable with its map.
+  pub begun-usable : (len : ℕ) (c : Cells) → begun s m out ≡ More len c → usable (length (begunMap s m out)) c ≡ true
+  unfolding begun begunMap firstLine
+  begun-usable len c = rw (le-ltb (length out) firstMost long) (go (checked s) refl)
+    where
+      go : (r : Checked) → checked s ≡ r → begunBy (filling s m) (headerOf version1 s) ≡ More len c → usable (length (filledBytes s m)) c ≡ true
+      go (Refused l) e = rw (refused-filling s m l e) (λ more. let z : _≡_ {A = ℕ} 0 1 = cc in absurd (omega arith))
+      go (Accepted h) e = rw (answer h e, file h e .header) (λ more. let same : h .cells ≡ c = cc in subst (λ (g : Cells). usable (length (filledBytes s m)) g ≡ true) same (grid-usable h e))
 
   pub whole-listing : allSent (begun s m out) (begunMap s m out) rooms ≡ true → sent (begun s m out) (begunMap s m out) (begunBytes s m out) rooms ≡ listing s
   whole-listing = go (checked s) refl
