@@ -47,7 +47,7 @@ unfoldable pub linesFrom : (ℕ → List ℕ) → (from count : ℕ) → List �
 linesFrom line from zero = []
 linesFrom line from (suc count) = linesFrom line from count ++ line (from + count)
 
--- ---- the whole listing of a file
+-- ---- the whole listing of a file: the refusal's line; or the first line, and the lines of the filled cells by cell number
 abbrev pub listingOf : Checked → List ℕ → List ℕ
 listingOf (C.Refused l) s = refusedLine l
 listingOf (C.Accepted h) s =
@@ -89,13 +89,15 @@ unfoldable pub stopAt : (ℕ → List ℕ) → (room from count : ℕ) → ℕ
 stopAt line room from zero = from
 stopAt line room from (suc count) = cond (ltb room lineMost) from (stopAt line (room - length (line from)) (from + 1) count)
 
--- A grid of 1 to 64 cells a side, with a map of `len` bytes that is long enough.
+-- A side of 1 to 64 cells.
 abbrev pub sideFits : ℕ → Bool
 sideFits n = leb 1 n && leb n 64
 
+-- The grid's cells in all.
 abbrev pub cellsIn : Cells → ℕ
 cellsIn c = c .x * c .y * c .z
 
+-- A grid of such sides, with a map of `len` bytes that is long enough.
 unfoldable pub usable : ℕ → Cells → Bool
 usable len c = sideFits (c .x) && (sideFits (c .y) && (sideFits (c .z) && leb (mapLength (cellsIn c)) len))
 
@@ -103,6 +105,7 @@ usable len c = sideFits (c .x) && (sideFits (c .y) && (sideFits (c .z) && leb (m
 abbrev pub lineOf : (map : List ℕ) → Cells → ℕ → List ℕ
 lineOf m c = cellLine (isFilled m) (c .x) (c .y)
 
+-- The cell to go on from after a piece that begins at a cell and has so much room, and the piece's text.
 unfoldable pub nextCell : (map : List ℕ) → Cells → (from room : ℕ) → ℕ
 nextCell m c from room = stopAt (lineOf m c) room from (cellsIn c - from)
 
