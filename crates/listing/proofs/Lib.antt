@@ -12,3 +12,5 @@ mod Usable
 mod Refused
 -- The pieces make the whole.
 pub mod Whole
+-- The worked listing.
+pub mod Worked
