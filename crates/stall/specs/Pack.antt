@@ -1,7 +1,11 @@
 -- A call's answer as one number of 64 bits. Definitions only.
+use mathlib.Core.Bool.{cond}
 use Prim.Native.Nat.{ℕ, _+_, _*_, _%_, _^_}
+use lib.Dec.{leb}
 use Rattle.frame.specs.declared.Limit.{Limit}
 use Rattle.frame.specs.Limit.{refusalOf}
+use Rattle.frame.specs.declared.Reading.{Reading}
+use Rattle.frame.specs.declared.Reading.the-variants.{Found, NoRecord, Refused}
 use Rattle.fill.specs.declared.Filling.{Filling}
 use Rattle.fill.specs.declared.Filling.the-variants.{Filled, Refused}
 use Rattle.route.specs.declared.RouteAnswer.{RouteAnswer}
@@ -26,3 +30,14 @@ abbrev pub packedRoute : RouteAnswer → ℕ
 packedRoute Free = packed 2 0 0 0
 packedRoute (Blocked m n) = packed 3 0 m n
 packedRoute (Refused l) = packedLimit l
+
+-- The answer of putting n numbers out where there is room for so many: tag 0 and n where they were written, tag 4 and n
+-- where the room is too little.
+abbrev pub packedNumbers : (n room : ℕ) → ℕ
+packedNumbers n room = packed (cond (leb n room) 0 4) 0 0 n
+
+-- The answer of a plain reading: 19 numbers with the record, 9 where there is no such record, or the refusal.
+abbrev pub packedReading : Reading → (room : ℕ) → ℕ
+packedReading (Found h t) room = packedNumbers 19 room
+packedReading (NoRecord h) room = packedNumbers 9 room
+packedReading (Refused l) room = packedLimit l
