@@ -1,0 +1,138 @@
+/*
+ * Cells, steel and routes in a milking stall: the calls of libstall.a, for C99 and C++.
+ *
+ * `rt staticlib stall` proves the library and writes target/staticlib/libstall.a.
+ *
+ * Common to all calls
+ * -------------------
+ * - A buffer passes as a pointer and then its length in elements. The pointer points to so many elements, for reading
+ *   where it is const. What is written overlaps nothing that is read.
+ * - There is no global state, no allocation and no lock. Calls on different buffers may run at the same time.
+ * - Every input is answered: a bad one with a refusal, and then every buffer holds what it held before.
+ * - Bytes and numbers behind what a call writes keep their contents.
+ * - Stack use: see docs/PERFORMANCE.md.
+ *
+ * The answer is one number of 64 bits:
+ *
+ *   bits 63 to 56   the tag (enum stall_tags)
+ *   bits 55 to 48   the limit's number, where the tag is STALL_REFUSED; else 0
+ *   bits 47 to 32   the leg, where the tag is STALL_BLOCKED; else 0
+ *   bits 31 to 0    a count, a place or a cell, by the tag; 0 for STALL_FREE
+ *
+ * Limits
+ * ------
+ * The first limit that the input breaks is the answer, in the order of the numbers. The place is 0 but for 7 and 10.
+ *
+ *    1  the file has fewer than 12 bytes
+ *    2  the version is not 1
+ *    3  the cell edge is 0
+ *    4  the header's last 12 bits are not zero
+ *    5  on some axis the grid reaches beyond 8,191
+ *    6  the file's length is not 12 + 16 x count
+ *    7  a record's kind is 3; place: the lowest such record, from 0
+ *    8  the map buffer is shorter than the map              (stall_fill and stall_route)
+ *    9  not 2 to 64 points, or numbers left over            (stall_route)
+ *   10  a point outside the grid; place: the lowest such    (stall_route)
+ */
+#ifndef STALL_H
+#define STALL_H
+
+#include <stddef.h>
+#include <stdint.h>
+
+#ifdef __cplusplus
+extern "C" {
+#endif
+
+/* The longest file, in bytes: 4,095 triangles. */
+#define STALL_FILE_MOST 65532
+/* The longest map, in bytes: 64 x 64 x 64 cells. */
+#define STALL_MAP_MOST 32768
+/* The most points of a route. */
+#define STALL_POINTS_MOST 64
+/* How many numbers stall_read writes: the header's, and the header's with a record's. */
+#define STALL_HEADER_NUMBERS 9
+#define STALL_READ_NUMBERS 19
+
+/* The top byte of an answer. */
+enum stall_tags {
+    STALL_DONE = 0,    /* stall_fill, stall_read: done; the low 32 bits count filled cells, or numbers written */
+    STALL_REFUSED = 1, /* every call: the number of the limit, and the place in the low 32 bits */
+    STALL_FREE = 2,    /* stall_route: no leg touches a filled cell */
+    STALL_BLOCKED = 3, /* stall_route: the first leg that touches one, and its lowest such cell in the low 32 bits */
+    STALL_SHORT = 4    /* stall_read: `out` is too short; the low 32 bits count the numbers wanted */
+};
+
+/*
+ * Fills the map of a frame file.
+ *
+ * With nx, ny, nz cells the map takes nx x ny x nz bits, rounded up to bytes, at most STALL_MAP_MOST. Cell (i, j, k) has
+ * the number n = i + nx x (j + ny x k), and is bit 7 - n % 8 of byte n / 8. Unused bits of the last byte are 0.
+ *
+ * Answer: STALL_DONE with the number of filled cells, or a refusal by limits 1 to 8.
+ */
+uint64_t stall_fill(const uint8_t *file, size_t file_len, uint8_t *map, size_t map_len);
+
+/*
+ * Tests a route of the arm on the map of a frame file, as stall_fill left it. Writes nothing.
+ *
+ * `numbers` holds x, y, z of each point, 2 to STALL_POINTS_MOST points; numbers_len counts numbers, not points. Leg m joins
+ * point m to point m + 1, from 0.
+ *
+ * Answer: STALL_FREE; or STALL_BLOCKED with the leg and the cell; or a refusal by limits 1 to 10.
+ */
+uint64_t stall_route(const uint8_t *file, size_t file_len, const uint8_t *map, size_t map_len, const int16_t *numbers,
+                     size_t numbers_len);
+
+/*
+ * Reads the header's values and one record of a frame file.
+ *
+ * Written to the start of `out`: version, cells along x, y, z, cell edge, origin x, y, z, triangle count; and behind these,
+ * where the file has the record, its kind and x, y, z of its three corners. Records are counted from 0.
+ *
+ * Answer: STALL_DONE with the numbers written, STALL_READ_NUMBERS, or STALL_HEADER_NUMBERS where there is no such record;
+ * STALL_SHORT with the numbers wanted, where out_len is less: then nothing is written; or a refusal by limits 1 to 7.
+ */
+uint64_t stall_read(const uint8_t *file, size_t file_len, size_t record, int32_t *out, size_t out_len);
+
+/* The tag of an answer: one of enum stall_tags. */
+static inline unsigned stall_tag(uint64_t answer)
+{
+    return (unsigned)(answer >> 56);
+}
+
+/* The number of the limit, of a refusal. */
+static inline unsigned stall_number(uint64_t answer)
+{
+    return (unsigned)(answer >> 48 & 0xff);
+}
+
+/* The place, of a refusal. */
+static inline uint32_t stall_place(uint64_t answer)
+{
+    return (uint32_t)(answer & 0xffffffffu);
+}
+
+/* The filled cells of a fill, or the numbers of a reading. */
+static inline uint32_t stall_count(uint64_t answer)
+{
+    return (uint32_t)(answer & 0xffffffffu);
+}
+
+/* The leg, of a blocked route. */
+static inline unsigned stall_leg(uint64_t answer)
+{
+    return (unsigned)(answer >> 32 & 0xffff);
+}
+
+/* The cell number, of a blocked route. */
+static inline uint32_t stall_cell(uint64_t answer)
+{
+    return (uint32_t)(answer & 0xffffffffu);
+}
+
+#ifdef __cplusplus
+}
+#endif
+
+#endif

@@ -1,0 +1,257 @@
+/*
+ * Tests libstall.a from C through include/stall.h: the worked examples, every limit, and bytes behind what is written.
+ * Prints a line a group and a line with the totals; the exit status is 1 where a check failed.
+ */
+#include <stdio.h>
+#include <string.h>
+
+#include "stall.h"
+
+static unsigned checks, failed;
+
+static void check(int holds, const char *group, const char *what, int line)
+{
+    checks++;
+    if (!holds) {
+        failed++;
+        printf("test.c:%d: %s: %s failed\n", line, group, what);
+    }
+}
+
+#define CHECK(group, condition) check((condition) ? 1 : 0, group, #condition, __LINE__)
+
+/* ---- a writer of frame files: bit fields, most significant bit first */
+
+struct frame {
+    uint8_t bytes[12 + 16 * 8];
+    size_t bits;
+};
+
+static void put(struct frame *f, unsigned width, long value)
+{
+    for (unsigned i = width; i-- > 0; f->bits++) {
+        if ((unsigned long)value >> i & 1) {
+            f->bytes[f->bits / 8] |= (uint8_t)(0x80 >> f->bits % 8);
+        }
+    }
+}
+
+/* A header with n x n x n cells. */
+static struct frame header(long version, long n, long edge, long origin, long count)
+{
+    struct frame f;
+    memset(&f, 0, sizeof f);
+    put(&f, 4, version);
+    for (int axis = 0; axis < 3; axis++) {
+        put(&f, 6, n - 1);
+    }
+    put(&f, 8, edge);
+    for (int axis = 0; axis < 3; axis++) {
+        put(&f, 14, origin);
+    }
+    put(&f, 12, count);
+    put(&f, 12, 0);
+    return f;
+}
+
+static void record(struct frame *f, long kind, const long corners[9])
+{
+    put(f, 2, kind);
+    for (int i = 0; i < 9; i++) {
+        put(f, 14, corners[i]);
+    }
+}
+
+static size_t length(const struct frame *f)
+{
+    return f->bits / 8;
+}
+
+/* ---- the worked rows: a grid of 2 x 2 x 2 cells of edge 10, one triangle, one byte of map */
+
+struct row {
+    const char *name;
+    long corners[9];
+    uint8_t map;
+    unsigned count;
+};
+
+static const struct row ROWS[] = {
+    {"a", {5, 5, 5, 5, 5, 5, 5, 5, 5}, 0x80, 1},         {"b", {10, 5, 5, 10, 5, 5, 10, 5, 5}, 0xc0, 2},
+    {"c", {10, 10, 10, 10, 10, 10, 10, 10, 10}, 0xff, 8}, {"d", {20, 5, 5, 20, 5, 5, 20, 5, 5}, 0x40, 1},
+    {"e", {21, 5, 5, 21, 5, 5, 21, 5, 5}, 0x00, 0},       {"f", {0, 20, 5, 20, 20, 5, 20, 0, 5}, 0xf0, 4},
+    {"g", {1, 20, 5, 20, 20, 5, 20, 1, 5}, 0x70, 3},      {"h", {30, 0, 0, 0, 30, 0, 0, 0, 30}, 0xff, 8},
+    {"i", {31, 0, 0, 0, 31, 0, 0, 0, 31}, 0x7f, 7},
+};
+
+static const struct row *const G = &ROWS[6];
+
+static struct frame worked(const struct row *row)
+{
+    struct frame f = header(1, 2, 10, 0, 1);
+    record(&f, 0, row->corners);
+    return f;
+}
+
+static void rows(void)
+{
+    static const uint8_t printed[28] = {0x10, 0x41, 0x04, 0x28, 0x00, 0x00, 0x00, 0x00, 0x00, 0x00, 0x10, 0x00, 0x00, 0x05,
+                                        0x00, 0x14, 0x00, 0x50, 0x01, 0x40, 0x05, 0x00, 0x14, 0x00, 0x50, 0x01, 0x40, 0x05};
+    struct frame a = worked(&ROWS[0]);
+    CHECK("rows", length(&a) == 28 && memcmp(a.bytes, printed, 28) == 0);
+    for (size_t i = 0; i < sizeof ROWS / sizeof ROWS[0]; i++) {
+        const struct row *row = &ROWS[i];
+        struct frame f = worked(row);
+        uint8_t map[4] = {0xaa, 0xaa, 0xaa, 0xaa};
+        uint64_t answer = stall_fill(f.bytes, length(&f), map, sizeof map);
+        check(stall_tag(answer) == STALL_DONE && stall_count(answer) == row->count, "rows", row->name, __LINE__);
+        check(map[0] == row->map, "rows", row->name, __LINE__);
+        check(map[1] == 0xaa && map[2] == 0xaa && map[3] == 0xaa, "rows: bytes behind", row->name, __LINE__);
+    }
+    struct frame none = header(1, 2, 10, 0, 0);
+    uint8_t map[1] = {0xaa};
+    CHECK("rows", stall_fill(none.bytes, length(&none), map, 1) == 0);
+    CHECK("rows", map[0] == 0);
+    puts("c: worked rows");
+}
+
+/* ---- the worked routes, on the map of g */
+
+static uint64_t route_on_g(const int16_t *numbers, size_t count)
+{
+    struct frame f = worked(G);
+    uint8_t map[1] = {G->map};
+    return stall_route(f.bytes, length(&f), map, 1, numbers, count);
+}
+
+static void routes(void)
+{
+    static const int16_t free_low[6] = {0, 0, 0, 9, 9, 0}, blocked_low[6] = {0, 0, 0, 10, 10, 0};
+    static const int16_t free_high[6] = {5, 5, 15, 15, 15, 15}, blocked_high[6] = {5, 5, 10, 15, 15, 10};
+    static const int16_t edge[6] = {0, 0, 15, 20, 20, 20}, second[9] = {0, 0, 0, 9, 9, 0, 20, 20, 0};
+    CHECK("routes", stall_tag(route_on_g(free_low, 6)) == STALL_FREE);
+    CHECK("routes", route_on_g(free_low, 6) == (uint64_t)STALL_FREE << 56);
+    uint64_t answer = route_on_g(blocked_low, 6);
+    CHECK("routes", stall_tag(answer) == STALL_BLOCKED && stall_leg(answer) == 0 && stall_cell(answer) == 1);
+    CHECK("routes", stall_tag(route_on_g(free_high, 6)) == STALL_FREE);
+    answer = route_on_g(blocked_high, 6);
+    CHECK("routes", stall_tag(answer) == STALL_BLOCKED && stall_leg(answer) == 0 && stall_cell(answer) == 1);
+    CHECK("routes", stall_tag(route_on_g(edge, 6)) == STALL_FREE);
+    answer = route_on_g(second, 9);
+    CHECK("routes", stall_tag(answer) == STALL_BLOCKED && stall_leg(answer) == 1 && stall_cell(answer) == 1);
+    puts("c: worked routes");
+}
+
+/* ---- the limits */
+
+/* Every call that can meet the limit gives its number and place, and leaves what it was lent as it was. */
+static void refuses(const uint8_t *file, size_t file_len, size_t map_len, unsigned number, uint32_t place, int line)
+{
+    static const int16_t numbers[6] = {0, 0, 0, 0, 0, 0};
+    uint8_t map[2] = {0xaa, 0xaa};
+    int32_t out[20];
+    for (int i = 0; i < 20; i++) {
+        out[i] = 77;
+    }
+    uint64_t wanted = (uint64_t)STALL_REFUSED << 56 | (uint64_t)number << 48 | place;
+    uint64_t answer = stall_fill(file, file_len, map, map_len);
+    check(answer == wanted, "limits", "stall_fill", line);
+    check(stall_tag(answer) == STALL_REFUSED && stall_number(answer) == number && stall_place(answer) == place, "limits",
+          "the parts of an answer", line);
+    check(stall_route(file, file_len, map, map_len, numbers, 6) == wanted, "limits", "stall_route", line);
+    check(map[0] == 0xaa && map[1] == 0xaa, "limits", "the map is as it was", line);
+    if (number <= 7) {
+        check(stall_read(file, file_len, 0, out, 20) == wanted, "limits", "stall_read", line);
+        check(stall_read(file, file_len, 0, out, 0) == wanted, "limits", "stall_read with no room", line);
+    }
+    for (int i = 0; i < 20; i++) {
+        check(out[i] == 77, "limits", "out is as it was", line);
+    }
+}
+
+static void limits(void)
+{
+    struct frame g = worked(G);
+    refuses(g.bytes, 0, 2, 1, 0, __LINE__);
+    refuses(g.bytes, 11, 2, 1, 0, __LINE__);
+    struct frame f = header(2, 2, 10, 0, 0);
+    refuses(f.bytes, 12, 2, 2, 0, __LINE__);
+    f = header(1, 2, 0, 0, 0);
+    refuses(f.bytes, 12, 2, 3, 0, __LINE__);
+    f = header(1, 2, 10, 0, 0);
+    f.bytes[11] = 1;
+    refuses(f.bytes, 12, 2, 4, 0, __LINE__);
+    f = header(1, 33, 255, 0, 0);
+    refuses(f.bytes, 12, 2, 5, 0, __LINE__);
+    refuses(g.bytes, 27, 2, 6, 0, __LINE__);
+    refuses(g.bytes, 29, 2, 6, 0, __LINE__);
+    f = header(1, 2, 10, 0, 3);
+    record(&f, 2, G->corners);
+    record(&f, 3, G->corners);
+    record(&f, 3, G->corners);
+    refuses(f.bytes, length(&f), 2, 7, 1, __LINE__);
+    refuses(f.bytes, length(&f), 0, 7, 1, __LINE__);
+    refuses(g.bytes, length(&g), 0, 8, 0, __LINE__);
+    f = header(1, 32, 255, 0, 0);
+    refuses(f.bytes, 12, 2, 8, 0, __LINE__);
+    puts("c: limits 1 to 8");
+}
+
+static void point_limits(void)
+{
+    int16_t numbers[195] = {0};
+    const uint64_t nine = (uint64_t)STALL_REFUSED << 56 | (uint64_t)9 << 48;
+    const uint64_t ten = (uint64_t)STALL_REFUSED << 56 | (uint64_t)10 << 48;
+    CHECK("points", route_on_g(numbers, 0) == nine);
+    CHECK("points", route_on_g(numbers, 3) == nine);
+    CHECK("points", route_on_g(numbers, 7) == nine);
+    CHECK("points", route_on_g(numbers, 195) == nine);
+    CHECK("points", stall_tag(route_on_g(numbers, 6)) == STALL_FREE);
+    CHECK("points", stall_tag(route_on_g(numbers, 192)) == STALL_FREE);
+    numbers[3] = 21;
+    CHECK("points", route_on_g(numbers, 6) == (ten | 1));
+    numbers[2] = -1;
+    CHECK("points", route_on_g(numbers, 6) == ten);
+    puts("c: limits 9 and 10");
+}
+
+/* ---- the plain reading */
+
+static void readings(void)
+{
+    struct frame f = header(1, 2, 10, -7, 2);
+    static const long low[9] = {-8192, 8191, 0, 1, 2, 3, -4, -5, -6};
+    record(&f, 1, low);
+    record(&f, 2, G->corners);
+    static const int32_t head[9] = {1, 2, 2, 2, 10, -7, -7, -7, 2};
+    for (size_t i = 0; i < 4; i++) {
+        for (size_t room = 0; room <= 20; room++) {
+            int32_t out[21];
+            for (int j = 0; j < 21; j++) {
+                out[j] = 77;
+            }
+            size_t wanted = i < 2 ? STALL_READ_NUMBERS : STALL_HEADER_NUMBERS;
+            uint64_t answer = stall_read(f.bytes, length(&f), i, out, room);
+            CHECK("reading", stall_tag(answer) == (room < wanted ? STALL_SHORT : STALL_DONE));
+            CHECK("reading", stall_count(answer) == wanted);
+            size_t written = room < wanted ? 0 : wanted;
+            const long *corners = i == 0 ? low : G->corners;
+            for (size_t j = 0; j < 21; j++) {
+                int32_t now = j >= written ? 77 : j < 9 ? head[j] : j == 9 ? (int32_t)i + 1 : (int32_t)corners[j - 10];
+                CHECK("reading", out[j] == now);
+            }
+        }
+    }
+    puts("c: plain reading");
+}
+
+int main(void)
+{
+    rows();
+    routes();
+    limits();
+    point_limits();
+    readings();
+    printf("c: %u checks, %u failed\n", checks, failed);
+    return failed != 0;
+}
