@@ -1,0 +1,222 @@
+//! Pseudo-random frames and routes, and the writer of frame files.
+
+use crate::random::Random;
+
+pub type Point = [i64; 3];
+
+/// A frame before it is written.
+pub struct Frame {
+    pub version: i64,
+    pub cells: [i64; 3],
+    pub edge: i64,
+    pub origin: Point,
+    pub triangles: Vec<(i64, [Point; 3])>,
+}
+
+/// Bits, most significant first.
+struct Bits(Vec<bool>);
+
+impl Bits {
+    fn put(&mut self, width: u32, value: i64) {
+        self.0
+            .extend((0..width).rev().map(|bit| value >> bit & 1 == 1));
+    }
+
+    fn into_bytes(self) -> Vec<u8> {
+        self.0
+            .chunks(8)
+            .map(|byte| {
+                byte.iter()
+                    .fold(0, |value, &bit| value << 1 | u8::from(bit))
+            })
+            .collect()
+    }
+}
+
+impl Frame {
+    /// The frame file.
+    pub fn write(&self) -> Vec<u8> {
+        let mut bits = Bits(Vec::new());
+        bits.put(4, self.version);
+        self.cells.iter().for_each(|cells| bits.put(6, cells - 1));
+        bits.put(8, self.edge);
+        self.origin.iter().for_each(|&origin| bits.put(14, origin));
+        bits.put(12, self.triangles.len() as i64);
+        bits.put(12, 0);
+        for (kind, corners) in &self.triangles {
+            bits.put(2, *kind);
+            corners
+                .iter()
+                .flatten()
+                .for_each(|&value| bits.put(14, value));
+        }
+        bits.into_bytes()
+    }
+
+    pub fn map_bytes(&self) -> usize {
+        (self.cells.iter().product::<i64>() as usize).div_ceil(8)
+    }
+
+    /// The far end of the grid on an axis.
+    pub fn end(&self, axis: usize) -> i64 {
+        self.origin[axis] + self.cells[axis] * self.edge
+    }
+}
+
+/// A frame with up to `most` cells along each axis. Most of them are accepted.
+pub fn frame(random: &mut Random, most: i64) -> Frame {
+    let cells = [0; 3].map(|_| random.between(1, most));
+    let edge = match random.below(6) {
+        0 => 1,
+        1 => random.between(2, 4),
+        2 => 255,
+        _ => random.between(1, 255),
+    };
+    let origin = cells.map(|cells| origin(random, cells * edge));
+    let triangles = random.below(6);
+    with_steel(random, cells, edge, origin, triangles)
+}
+
+/// The largest grid.
+pub fn largest(random: &mut Random) -> Frame {
+    let edge = random.between(1, 130);
+    let origin = [0; 3].map(|_| origin(random, 64 * edge));
+    let triangles = 1 + random.below(3);
+    with_steel(random, [64; 3], edge, origin, triangles)
+}
+
+/// A small grid well inside the limits, so that a damaged one is small too.
+pub fn small(random: &mut Random) -> Frame {
+    let cells = [0; 3].map(|_| random.between(1, 4));
+    let edge = random.between(1, 20);
+    let origin = [0; 3].map(|_| random.between(-3000, 3000));
+    let triangles = random.below(6);
+    with_steel(random, cells, edge, origin, triangles)
+}
+
+/// So many triangles in a grid, now and then one of the unused kind.
+fn with_steel(
+    random: &mut Random,
+    cells: [i64; 3],
+    edge: i64,
+    origin: Point,
+    triangles: usize,
+) -> Frame {
+    let mut frame = Frame {
+        version: 1,
+        cells,
+        edge,
+        origin,
+        triangles: Vec::new(),
+    };
+    for _ in 0..triangles {
+        let kind = if random.once_in(150) {
+            3
+        } else {
+            random.between(0, 2)
+        };
+        let corners = triangle(random, &frame);
+        frame.triangles.push((kind, corners));
+    }
+    frame
+}
+
+/// The origin of an axis of this length: mostly anywhere, now and then the last that fits and the first that does not.
+fn origin(random: &mut Random, length: i64) -> i64 {
+    let last = (8191 - length).max(-8192);
+    match random.below(12) {
+        0 => last,
+        1 if random.once_in(6) => (last + 1).min(8191),
+        2 => -8192,
+        3 => 0.min(last),
+        _ => random.between(-8192, last),
+    }
+}
+
+/// A corner's value on an axis: in the grid, on a face, near it, or anywhere.
+fn value(random: &mut Random, frame: &Frame, axis: usize) -> i64 {
+    let (low, high) = (frame.origin[axis], frame.end(axis));
+    let value = match random.below(10) {
+        0..=3 => random.between(low, high),
+        4..=6 => low + random.between(0, frame.cells[axis]) * frame.edge,
+        7 => random.between(low - 3 * frame.edge, high + 3 * frame.edge),
+        8 => random.between(-8192, 8191),
+        _ => [-8192, 8191, low - 1, high + 1][random.below(4)],
+    };
+    value.clamp(-8192, 8191)
+}
+
+fn corner(random: &mut Random, frame: &Frame) -> Point {
+    [0, 1, 2].map(|axis| value(random, frame, axis))
+}
+
+/// A corner within a cell or two of another.
+fn near(random: &mut Random, frame: &Frame, [x, y, z]: Point) -> Point {
+    [x, y, z]
+        .map(|value| (value + random.between(-2 * frame.edge, 2 * frame.edge)).clamp(-8192, 8191))
+}
+
+/// A triangle: any, small, level, a segment, three corners in one line, or a point.
+fn triangle(random: &mut Random, frame: &Frame) -> [Point; 3] {
+    let a = corner(random, frame);
+    let b = corner(random, frame);
+    let c = corner(random, frame);
+    match random.below(12) {
+        0..=3 => [a, b, c],
+        4..=6 => [a, near(random, frame, a), near(random, frame, a)],
+        7 => {
+            let axis = random.below(3);
+            let level = |mut corner: Point| {
+                corner[axis] = a[axis];
+                corner
+            };
+            [a, level(b), level(c)]
+        }
+        8 => [[a, b, b], [a, a, b], [a, b, a]][random.below(3)],
+        9 => {
+            let b = near(random, frame, a);
+            let behind = [0, 1, 2].map(|axis| (3 * b[axis] - 2 * a[axis]).clamp(-8192, 8191));
+            [[a, b, behind], [b, a, behind], [behind, b, a]][random.below(3)]
+        }
+        10 => [a; 3],
+        _ => [near(random, frame, b), b, c],
+    }
+}
+
+/// A route's numbers: mostly points in the grid's closed box; now and then a wrong count, or a point outside.
+pub fn route(random: &mut Random, frame: &Frame) -> Vec<i16> {
+    let points = match random.below(40) {
+        0 => [0, 1, 63, 64, 65][random.below(5)],
+        1..=30 => 2,
+        _ => 2 + random.below(4),
+    };
+    let mut numbers: Vec<i16> = Vec::new();
+    for _ in 0..points {
+        if numbers.len() >= 3 && random.once_in(12) {
+            numbers.extend_from_within(numbers.len() - 3..);
+        } else {
+            numbers.extend([0, 1, 2].map(|axis| coordinate(random, frame, axis)));
+        }
+    }
+    if random.once_in(60) {
+        numbers.extend((0..1 + random.below(2)).map(|_| 0));
+    }
+    if !numbers.is_empty() && random.once_in(25) {
+        let i = random.below(numbers.len());
+        numbers[i] = match random.below(4) {
+            0 => (frame.origin[i % 3] - 1) as i16,
+            1 => (frame.end(i % 3) + 1) as i16,
+            _ => random.next() as i16,
+        };
+    }
+    numbers
+}
+
+/// A point's value on an axis: anywhere in the grid, or on a face.
+fn coordinate(random: &mut Random, frame: &Frame, axis: usize) -> i16 {
+    let value = match random.below(3) {
+        0 => frame.origin[axis] + random.between(0, frame.cells[axis]) * frame.edge,
+        _ => random.between(frame.origin[axis], frame.end(axis).max(frame.origin[axis])),
+    };
+    value as i16
+}

@@ -1,0 +1,137 @@
+//! Puts the same question to both implementations, and counts.
+
+use crate::random::Random;
+
+/// What was compared, and how often the two differed.
+#[derive(Default)]
+pub struct Tally {
+    pub fills: usize,
+    pub accepted: usize,
+    pub routes: usize,
+    pub free: usize,
+    pub blocked: usize,
+    pub readings: usize,
+    pub failed: usize,
+    /// The seed of what is compared now, for the message.
+    pub seed: u64,
+}
+
+impl Tally {
+    /// Counts a difference, and prints the first few with what is needed to see them again.
+    fn differ(&mut self, call: &str, file: &[u8], lent: &str, library: &str, apart: &str) {
+        self.failed += 1;
+        if self.failed <= 10 {
+            let file: String = file.iter().map(|byte| format!("{byte:02x}")).collect();
+            println!("{call} differs, seed {}\n  file {file}\n  {lent}\n  library {library}\n  independent {apart}", self.seed);
+        }
+    }
+
+    /// Both fill a buffer of this length with any contents: the answers and all bytes are the same. Gives the library's.
+    pub fn fill(&mut self, random: &mut Random, file: &[u8], length: usize) -> Vec<u8> {
+        self.fills += 1;
+        let before = random.bytes(length);
+        let (mut map, mut apart_map) = (before.clone(), before.clone());
+        let answer = stall::fill(file, &mut map)
+            .map_err(|refusal| (u32::from(refusal.number), refusal.place as usize));
+        let apart = independent::fill(file, &mut apart_map)
+            .map_err(|refusal| (refusal.number, refusal.place));
+        let kept = answer.is_ok() || map == before;
+        if answer != apart || map != apart_map || !kept {
+            let first = map.iter().zip(&apart_map).position(|(a, b)| a != b);
+            let lent = format!("buffer of {length} bytes, first differing byte {first:?}");
+            self.differ(
+                "fill",
+                file,
+                &lent,
+                &format!("{answer:?}"),
+                &format!("{apart:?}"),
+            );
+        }
+        self.accepted += usize::from(answer.is_ok());
+        map
+    }
+
+    /// Both test a route on a map.
+    pub fn route(&mut self, file: &[u8], map: &[u8], numbers: &[i16]) {
+        self.routes += 1;
+        let answer = stall::test_route(file, map, numbers)
+            .map(|route| match route {
+                stall::Route::Free => None,
+                stall::Route::Blocked { leg, cell } => Some((leg, cell)),
+            })
+            .map_err(|refusal| (u32::from(refusal.number), refusal.place as usize));
+        let apart = independent::test_route(file, map, numbers)
+            .map(|route| match route {
+                independent::Route::Free => None,
+                independent::Route::Blocked { leg, cell } => Some((leg, cell)),
+            })
+            .map_err(|refusal| (refusal.number, refusal.place));
+        if answer != apart {
+            self.differ(
+                "route",
+                file,
+                &format!("route {numbers:?}"),
+                &format!("{answer:?}"),
+                &format!("{apart:?}"),
+            );
+        }
+        self.free += usize::from(answer == Ok(None));
+        self.blocked += usize::from(matches!(answer, Ok(Some(_))));
+    }
+
+    /// Both read a record, the library into a buffer of this length.
+    pub fn read(&mut self, random: &mut Random, file: &[u8], record: usize, length: usize) {
+        self.readings += 1;
+        let before: Vec<i32> = (0..length).map(|_| random.next() as i32).collect();
+        let mut out = before.clone();
+        let answer = stall::read_numbers(file, record, &mut out);
+        let (apart, numbers) = match independent::read(file, record) {
+            Err(refusal) => {
+                let refusal = stall::Refusal {
+                    number: refusal.number as u8,
+                    place: refusal.place as u32,
+                };
+                (Err(stall::NotRead::Refused(refusal)), Vec::new())
+            }
+            Ok((header, record)) => {
+                let numbers = numbers(&header, record);
+                if numbers.len() <= length {
+                    (Ok(numbers.len()), numbers)
+                } else {
+                    (
+                        Err(stall::NotRead::Short {
+                            wanted: numbers.len(),
+                        }),
+                        Vec::new(),
+                    )
+                }
+            }
+        };
+        let mut wanted = before;
+        wanted[..numbers.len()].copy_from_slice(&numbers);
+        if answer != apart || out != wanted {
+            let lent = format!("record {record}, room for {length}: {out:?}");
+            self.differ(
+                "read",
+                file,
+                &lent,
+                &format!("{answer:?}"),
+                &format!("{apart:?}, {wanted:?}"),
+            );
+        }
+    }
+}
+
+/// A reading's numbers in the order of the library's buffer.
+fn numbers(header: &independent::Header, record: Option<independent::Record>) -> Vec<i32> {
+    let mut numbers = vec![header.version];
+    numbers.extend(header.cells);
+    numbers.push(header.edge);
+    numbers.extend(header.origin);
+    numbers.push(header.count as i64);
+    if let Some(record) = record {
+        numbers.push(record.kind);
+        numbers.extend(record.corners.iter().flatten());
+    }
+    numbers.into_iter().map(|number| number as i32).collect()
+}
