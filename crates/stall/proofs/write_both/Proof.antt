@@ -5,6 +5,7 @@ use borrow.Author.Tests.{le-leb, lt-leb}
 use mathlib.Core.List.{List, _++_}
 use mathlib.Core.Path.{refl, ap, ap₂, _∙_}
 use Prim.Native.Nat.{_-_}
+use native.Mathlib.Omega.{arith}
 use lib.IntN.{ℤ}
 use lib.ListN.{length, drop}
 use Rattle.stall.specs.Numbers.{headerNumbers, recordNumbers}
@@ -13,7 +14,7 @@ use Rattle.stall.proofs.write_both.Statement.{statement}
 use Rattle.stall.proofs.write_both.Tie as tie
 
 returns : tie.Need-returns
-returns c = rw (lt-leb _ _ (c .before .if1 .taken)) (c .pack .ensures, refl)
+returns c = rw (lt-leb 19 (length (c .before .before .args .out .now)) (omega (arith, c .before .if1 .taken))) (c .pack .ensures, refl)
 
 -- a list with ys in the place of all numbers behind the ninth, and the second copy over those
 abbrev put : List ℤ → List ℤ → List ℤ
@@ -30,7 +31,7 @@ returns-2 c =
     let made = first .before .before .before in
     let start = made .before .before in
     let o = start .args .out .now in
-    rw (le-leb _ _ (made .before .if1 .left)) (
+    rw (le-leb 19 (length o) (omega (arith, made .before .if1 .left))) (
       c .pack2 .ensures,
       ap (λ (ys : List ℤ). put (first .copy .last .1 .0) ys) (second .copy2 .ensures)
           ∙ ap (λ (l : List ℤ). put l (second-list (made-record .record-numbers .result) l)) (first .copy .ensures)
