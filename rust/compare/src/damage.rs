@@ -4,7 +4,10 @@ use crate::random::Random;
 use crate::scene;
 use crate::tally::Tally;
 
-/// Every call on a damaged file. Damage may make the grid larger, so the buffer is the longest.
+/// Longer than every map: damage may make the grid larger.
+const ROOM: usize = 32_770;
+
+/// Every call on a damaged file.
 fn calls(tally: &mut Tally, random: &mut Random, file: &[u8], numbers: &[i16], room: usize) {
     let map = tally.fill(random, file, room);
     tally.route(file, &map, numbers);
@@ -25,24 +28,24 @@ pub fn each(tally: &mut Tally) -> usize {
         let file = frame.write();
         let numbers = scene::route(&mut random, &frame);
         for length in 0..file.len() {
-            calls(tally, &mut random, &file[..length], &numbers, 32_770);
+            calls(tally, &mut random, &file[..length], &numbers, ROOM);
         }
         for bit in 0..8 * file.len() {
             let mut flipped = file.clone();
             flipped[bit / 8] ^= 0x80 >> (bit % 8);
-            calls(tally, &mut random, &flipped, &numbers, 32_770);
+            calls(tally, &mut random, &flipped, &numbers, ROOM);
         }
         for more in 1..=17 {
             let mut longer = file.clone();
             longer.extend(random.bytes(more));
-            calls(tally, &mut random, &longer, &numbers, 32_770);
+            calls(tally, &mut random, &longer, &numbers, ROOM);
         }
         files += file.len() * 9 + 17;
     }
     files
 }
 
-/// So many files with one to three damages each: a flipped bit, another byte, a cut, or bytes more.
+/// So many files with one to three damages each.
 pub fn many(tally: &mut Tally, files: u64) {
     for seed in 0..files {
         tally.seed = seed;
@@ -51,24 +54,27 @@ pub fn many(tally: &mut Tally, files: u64) {
         let mut file = frame.write();
         let numbers = scene::route(&mut random, &frame);
         for _ in 0..1 + random.below(3) {
-            match random.below(8) {
-                0 => file.truncate(random.below(file.len() + 1)),
-                1 => file.extend_from_slice(&[0; 16][..1 + random.below(16)]),
-                2 if !file.is_empty() => {
-                    let at = random.below(file.len());
-                    file[at] = random.next() as u8;
-                }
-                _ if !file.is_empty() => {
-                    let bit = random.below(8 * file.len());
-                    file[bit / 8] ^= 0x80 >> (bit % 8);
-                }
-                _ => file = vec![random.next() as u8],
-            }
+            damage(&mut random, &mut file);
         }
         let room = frame.map_bytes() + random.below(64);
         calls(tally, &mut random, &file, &numbers, room);
-        if (seed + 1) % 100_000 == 0 {
+        if (seed + 1).is_multiple_of(100_000) {
             println!("damaged: {} files, {} failed", seed + 1, tally.failed);
         }
+    }
+}
+
+/// A cut, bytes more, another byte, or a flipped bit.
+fn damage(random: &mut Random, file: &mut Vec<u8>) {
+    if file.is_empty() {
+        file.push(random.next() as u8);
+        return;
+    }
+    let at = random.below(file.len());
+    match random.below(8) {
+        0 => file.truncate(at),
+        1 => file.extend_from_slice(&[0; 16][at % 16..]),
+        2 => file[at] = random.next() as u8,
+        _ => file[at] ^= 1 << random.below(8),
     }
 }

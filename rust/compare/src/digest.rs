@@ -8,8 +8,8 @@ const ROUTES: u64 = 4;
 
 /// A step of a linear congruential generator of 31 bits, with the halves of the outcome exchanged.
 fn step(state: u64) -> u64 {
-    let next = (state * 1_103_515_245 + 12_345) % (1 << 31);
-    (next % (1 << 16) << 15) + (next >> 16)
+    let next = (state * 1_103_515_245 + 12_345) % 2_147_483_648;
+    next % 65_536 * 32_768 + next / 65_536
 }
 
 /// The numbers of one frame.

@@ -52,7 +52,7 @@ fn main() -> ExitCode {
     }
 }
 
-/// One frame: fills of buffers of several lengths, routes on its map and on another, and readings.
+/// One frame: fills of buffers of several lengths, routes on its map and on others, and readings.
 fn frame(tally: &mut Tally, seed: u64) {
     tally.seed = seed;
     let mut random = Random::new(seed);
@@ -65,31 +65,25 @@ fn frame(tally: &mut Tally, seed: u64) {
     };
     let file = frame.write();
     let bytes = frame.map_bytes();
+    let shorter = random.below(bytes);
     let longer = bytes + [0, 1, 7, 100][random.below(4)];
+
     let map = tally.fill(&mut random, &file, longer);
-    tally.fill(&mut random, &file, bytes - 1);
-    if seed % 20 == 3 {
-        tally.fill(&mut random, &file, random_below(seed, bytes));
-        tally.fill(&mut random, &file, bytes);
+    for length in [shorter, bytes - 1] {
+        tally.fill(&mut random, &file, length);
     }
-    for _ in 0..if large { 3 } else { 6 } {
+    for _ in 0..if large { 3 } else { 7 } {
         let numbers = scene::route(&mut random, &frame);
         tally.route(&file, &map, &numbers);
     }
-    if !large {
-        let numbers = scene::route(&mut random, &frame);
-        let other = random.bytes(bytes + random_below(seed, 2));
-        tally.route(&file, &other, &numbers);
-        tally.route(&file, &map[..random_below(seed, bytes)], &numbers);
-    }
+    let numbers = scene::route(&mut random, &frame);
+    let other = random.bytes(longer);
+    tally.route(&file, &other, &numbers);
+    tally.route(&file, &map[..shorter], &numbers);
     for record in 0..frame.triangles.len() + 2 {
-        tally.read(&mut random, &file, record, [19, 20, 25][seed as usize % 3]);
-        tally.read(&mut random, &file, record, seed as usize % 24);
+        let room = random.below(24);
+        tally.read(&mut random, &file, record, room);
+        tally.read(&mut random, &file, record, 19);
     }
-    tally.read(&mut random, &file, usize::MAX, 19);
-}
-
-/// A number below n that goes by the seed alone.
-fn random_below(seed: u64, n: usize) -> usize {
-    Random::new(!seed).below(n)
+    tally.read(&mut random, &file, usize::MAX, 9);
 }

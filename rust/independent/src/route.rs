@@ -18,7 +18,7 @@ pub fn test_route(file: &[u8], map: &[u8], numbers: &[i16]) -> Result<Route, Ref
     question(
         9,
         0,
-        numbers.len() % 3 == 0 && (2..=64).contains(&(numbers.len() / 3)),
+        numbers.len().is_multiple_of(3) && (2..=64).contains(&(numbers.len() / 3)),
     )?;
     let points: Vec<[i64; 3]> = numbers
         .chunks(3)
