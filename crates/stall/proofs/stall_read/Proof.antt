@@ -4,7 +4,7 @@ use borrow.Author.Tests.{le-leb}
 use mathlib.Core.Path.{sym, _∙_}
 use Prim.Native.Nat.{zero-le}
 use lib.ListN.{length}
-use Rattle.stall.proofs.Readings.{header-small, found-small}
+use Rattle.stall.proofs.Readings.{small-reading}
 use Rattle.stall.proofs.stall_read.Statement.{statement}
 use Rattle.stall.proofs.stall_read.Tie as tie
 
@@ -12,13 +12,13 @@ write-both-requires : tie.Need-write-both-requires
 write-both-requires c κs =
     let arm = c .before .before in
     let s = arm .before .before .before .before in
-    found-small (s .args .file .now) (s .args .i) _ _ (sym (arm .before .before .read .ensures) ∙ arm .header .given .1)
+    rw (sym (arm .before .before .read .ensures) ∙ arm .header .given .1) at (small-reading (s .args .file .now) (s .args .i))
 
 write-header-requires : tie.Need-write-header-requires
 write-header-requires c κs =
     let arm = c .before .before in
     let s = arm .before .before .before .before in
-    header-small (s .args .file .now) (s .args .i) _ (sym (arm .before .before .read .ensures) ∙ arm .header2 .given .1)
+    rw (sym (arm .before .before .read .ensures) ∙ arm .header2 .given .1) at (small-reading (s .args .file .now) (s .args .i))
 
 returns : tie.Need-returns
 returns c =
