@@ -3,25 +3,26 @@ use mathlib.Core.Bool.{Bool, cond}
 use mathlib.Core.List.{List}
 use Prim.Native.Nat.{ℕ, _+_, _/_, _%_}
 use lib.Dec.{leb}
-use lib.IntN.{ℤ, pos, _*ℤ_}
+use lib.IntN.{ℤ, pos}
 use lib.ListN.{length, getD}
 use Rattle.overlap.specs.declared.Setup.{Setup}
 use Rattle.overlap.specs.Block.{blockTest}
 use Rattle.overlap.specs.Geometry.{Point, point, Triangle}
-use Rattle.overlap.specs.Setup.{setupOf}
+use Rattle.overlap.specs.Grid.{cellPoint}
+use Rattle.overlap.specs.Setup.{setupOf, measuredFrom}
 use Rattle.grid.specs.Map.{countBelow}
 
--- The lowest corner of cell n. From each cell to the next all three coordinates change.
-abbrev pub cellAt : ℤ → ℕ → Point
-cellAt edge n = point (pos (n % 32) *ℤ edge) (pos ((n + n / 32) % 32) *ℤ edge) (pos ((n + n / 1024) % 32) *ℤ edge)
+-- The numbers of cell n. From each cell to the next all three change.
+abbrev pub cellAt : ℕ → Point
+cellAt n = cellPoint (n % 32) ((n + n / 32) % 32) ((n + n / 1024) % 32)
 
 -- Cell n passes the test, the boxes aside.
-abbrev pub passes : Setup → ℤ → ℕ → Bool
-passes f edge n = blockTest f (cellAt edge n) (cellAt edge n)
+abbrev pub passes : Setup → ℕ → Bool
+passes f n = blockTest f (cellAt n) (cellAt n)
 
 -- How many of the cells pass for the triangle.
 abbrev pub passing : Triangle → ℤ → ℕ
-passing t edge = countBelow (passes (setupOf t edge) edge) 32768
+passing t edge = countBelow (passes (setupOf (measuredFrom (point (pos 0) (pos 0) (pos 0)) t) edge)) 32768
 
 -- The corner whose x, y and z start at number i, and the triangle whose corners are the first nine numbers.
 abbrev pub cornerFrom : List ℤ → ℕ → Point

@@ -1,15 +1,15 @@
 // For measuring only: the overlap test of every cell of a cube of cells, without blocks and without a map.
-use overlap::Setup;
 use overlap::Vector;
 ghost use mathlib.Core.Path.{_≡_};
 ghost use Prim.Native.Nat.{_+_, _^_, _<_};
-ghost use lib.IntN.{pos, _*ℤ_};
+ghost use lib.IntN.{pos};
 ghost use lib.ListN.{length, getD};
 ghost use Rattle.integers.specs.Within.{Within};
 ghost use Rattle.overlap.specs.Bounds.{BoundedPoint, BoundedSetup};
+ghost use Rattle.overlap.specs.Lent.{setupAt};
 ghost use Rattle.overlap.specs.Setup.{pointOf};
 ghost use Rattle.grid.specs.Map.{bit, countBelow};
-ghost use Rattle.bench_overlap.specs.Cells.{cellAt, passes, cornerFrom, passingOf};
+ghost use Rattle.bench_overlap.specs.Cells.{passes, cornerFrom, passingOf};
 
 // Of 32 × 32 × 32 cells, the first at the origin, how many pass the test for the triangle, the boxes aside. The
 // numbers are x, y and z of its corners in turn; where there are fewer than nine, the answer is 0.
@@ -24,7 +24,9 @@ pub extern "C" fn bench_overlap_cells(numbers: &[i16], edge: u8) -> usize
     let v1 = corner(numbers, 3);
     let v2 = corner(numbers, 6);
     let s = integers::from_index(edge as usize);
-    count(overlap::set_up(v0, v1, v2, s), s)
+    let origin = Vector { x: 0, y: 0, z: 0 };
+    let forms = overlap::triangle_forms(v0, v1, v2, origin, s, 32, 32);
+    count(&forms)
 }
 
 // The corner whose three numbers start at i.
@@ -47,30 +49,29 @@ fn coordinate(numbers: &[i16], i: usize) -> i64
 }
 
 // How many of the cells pass.
-fn count(setup: Setup, edge: i64) -> usize
-    requires { ⌜ BoundedSetup setup × Within 255 edge ⌝ }
-    ensures { λ r. ⌜ r ≡ countBelow (passes setup edge) 32768 ⌝ }
+fn count(forms: &[i64; 34]) -> usize
+    requires { ⌜ BoundedSetup (setupAt (now forms)) ⌝ }
+    ensures { λ r. ⌜ r ≡ countBelow (passes (setupAt (now (forms .entry)))) 32768 ⌝ }
 {
     let mut sum = 0;
     let mut n = 0;
     while n < 32768 {
-        let p = cell(n, edge);
-        sum += counted(overlap::may_overlap(setup, p, p));
+        sum += counted(cell_passes(forms, n));
         n += 1;
     }
     sum
 }
 
-// The lowest corner of cell n. From each cell to the next all three coordinates change, so that no part of a
-// test serves two cells.
-fn cell(n: usize, edge: i64) -> Vector
-    requires { ⌜ (n < 32768) × Within 255 edge ⌝ }
-    ensures { λ r. ⌜ (pointOf r ≡ cellAt edge n) × BoundedPoint (pointOf r) ⌝ }
+// The test of cell n. From each cell to the next all three numbers change, so that no part of a test serves two
+// cells.
+fn cell_passes(forms: &[i64; 34], n: usize) -> bool
+    requires { ⌜ BoundedSetup (setupAt (now forms)) × (n < 32768) ⌝ }
+    ensures { λ r. ⌜ r ≡ passes (setupAt (now (forms .entry))) n ⌝ }
 {
-    let x = along(n % 32, edge);
-    let y = along((n + n / 32) % 32, edge);
-    let z = along((n + n / 1024) % 32, edge);
-    Vector { x, y, z }
+    let i = n % 32;
+    let j = (n + n / 32) % 32;
+    let k = (n + n / 1024) % 32;
+    overlap::may_overlap(forms, i, i, j, j, k, k)
 }
 
 // 1 for a cell that passes.
@@ -78,12 +79,4 @@ fn counted(passes: bool) -> usize
     ensures { λ r. ⌜ r ≡ bit passes ⌝ }
 {
     if passes { 1 } else { 0 }
-}
-
-// i × edge
-fn along(i: usize, edge: i64) -> i64
-    requires { ⌜ (i < 32) × Within 255 edge ⌝ }
-    ensures { λ r. ⌜ r ≡ pos i *ℤ edge ⌝ }
-{
-    integers::from_index(i) * edge
 }

@@ -3,18 +3,22 @@
 --     halved-x, -y, -z     a block cut across an axis
 --     empty-x, -y, -z      a block with an empty range has no cell
 --     in-block             a cell of a block, by its places
+--     by-ends              a block by its first and last cells
+--     part-room            a part of a block has room in the map
 -- Assumes nothing.
 use mathlib.Core.Bool.{Bool, true, false, _&&_, _||_, and-or-distrib-left, and-or-distrib-right}
+use mathlib.Core.List.{List}
 use mathlib.Core.Path.{_≡_, refl}
-use Prim.Native.Nat.{ℕ, _<_, _≤_}
+use Prim.Native.Nat.{ℕ, _+_, _-_, _<_, _≤_}
 use native.Mathlib.Decide.{decLt}
 use native.Mathlib.Omega.{arith}
 use borrow.Author.Tests.{lt-ltb, le-ltb, le-leb, lt-leb, leb-true, ltb-true}
 use lib.Dec.{leb, ltb}
+use lib.IntN.{ℤ}
 use Rattle.overlap.specs.declared.BoxRange.{BoxRange}
 use Rattle.overlap.specs.declared.CellRange.{CellRange}
 use Rattle.overlap.specs.Range.{inRange}
-use Rattle.fill.specs.Block.{inBlock, block, NonEmpty, Cut, Halved}
+use Rattle.fill.specs.Block.{inBlock, range, blockOf, NonEmpty, Room, Part, Halved}
 
 -- ---- tests
 pub and-left : (p q : Bool) → (p && q) ≡ true → p ≡ true
@@ -71,42 +75,39 @@ in-block b i j k e =
       z = in-range (b .z) k (and-right (inRange (b .x) i && inRange (b .y) j) (inRange (b .z) k) e);
     }
 
-module _ (x y z : CellRange) (some : NonEmpty (block x y z)) where
-  pub halved-x : {low high : CellRange} → Cut x low high → Halved (block x y z) (block low y z) (block high y z)
+module _ (lx hx ly hy lz hz : ℕ) (some : NonEmpty (blockOf lx hx ly hy lz hz)) (m : ℕ) where
+  pub halved-x : lx ≤ m → m < hx → Halved (blockOf lx hx ly hy lz hz) (blockOf lx m ly hy lz hz) (blockOf (m + 1) hx ly hy lz hz)
   unfolding inBlock
-  halved-x c = record {
-    less-low = omega (arith, c .less-low);
-    less-high = omega (arith, c .less-high);
-    some-low = record { x = c .some-low; y = some .y; z = some .z };
-    some-high = record { x = c .some-high; y = some .y; z = some .z };
-    in-low = λ g h. record { x = omega (arith, c .end-low, h .x); y = h .y; z = h .z };
-    in-high = λ g h. record { x = omega (arith, c .end-high, h .x); y = h .y; z = h .z };
-    both = λ i j k. rw (c .both i, and-or-distrib-right, and-or-distrib-right);
+  halved-x l h = record {
+    low-part = record { some = some-x lx m (omega arith); less = omega (arith, some); x = omega arith; y = omega arith; z = omega arith };
+    high-part = record { some = some-x (m + 1) hx (omega arith); less = omega (arith, some); x = omega arith; y = omega arith; z = omega arith };
+    both = λ i j k. rw (range-cut (range lx hx) (m + 1) (omega arith) (omega arith) i, and-or-distrib-right, and-or-distrib-right);
   }
+    where
+      some-x : (a b : ℕ) → a < b + 1 → NonEmpty (blockOf a b ly hy lz hz)
+      some-x a b h = record { x = h; y = some .y; z = some .z }
 
-  pub halved-y : {low high : CellRange} → Cut y low high → Halved (block x y z) (block x low z) (block x high z)
+  pub halved-y : ly ≤ m → m < hy → Halved (blockOf lx hx ly hy lz hz) (blockOf lx hx ly m lz hz) (blockOf lx hx (m + 1) hy lz hz)
   unfolding inBlock
-  halved-y c = record {
-    less-low = omega (arith, c .less-low);
-    less-high = omega (arith, c .less-high);
-    some-low = record { x = some .x; y = c .some-low; z = some .z };
-    some-high = record { x = some .x; y = c .some-high; z = some .z };
-    in-low = λ g h. record { x = h .x; y = omega (arith, c .end-low, h .y); z = h .z };
-    in-high = λ g h. record { x = h .x; y = omega (arith, c .end-high, h .y); z = h .z };
-    both = λ i j k. rw (c .both j, and-or-distrib-left, and-or-distrib-right);
+  halved-y l h = record {
+    low-part = record { some = some-y ly m (omega arith); less = omega (arith, some); x = omega arith; y = omega arith; z = omega arith };
+    high-part = record { some = some-y (m + 1) hy (omega arith); less = omega (arith, some); x = omega arith; y = omega arith; z = omega arith };
+    both = λ i j k. rw (range-cut (range ly hy) (m + 1) (omega arith) (omega arith) j, and-or-distrib-left, and-or-distrib-right);
   }
+    where
+      some-y : (a b : ℕ) → a < b + 1 → NonEmpty (blockOf lx hx a b lz hz)
+      some-y a b h = record { x = some .x; y = h; z = some .z }
 
-  pub halved-z : {low high : CellRange} → Cut z low high → Halved (block x y z) (block x y low) (block x y high)
+  pub halved-z : lz ≤ m → m < hz → Halved (blockOf lx hx ly hy lz hz) (blockOf lx hx ly hy lz m) (blockOf lx hx ly hy (m + 1) hz)
   unfolding inBlock
-  halved-z c = record {
-    less-low = omega (arith, c .less-low);
-    less-high = omega (arith, c .less-high);
-    some-low = record { x = some .x; y = some .y; z = c .some-low };
-    some-high = record { x = some .x; y = some .y; z = c .some-high };
-    in-low = λ g h. record { x = h .x; y = h .y; z = omega (arith, c .end-low, h .z) };
-    in-high = λ g h. record { x = h .x; y = h .y; z = omega (arith, c .end-high, h .z) };
-    both = λ i j k. rw (c .both k, and-or-distrib-left);
+  halved-z l h = record {
+    low-part = record { some = some-z lz m (omega arith); less = omega (arith, some); x = omega arith; y = omega arith; z = omega arith };
+    high-part = record { some = some-z (m + 1) hz (omega arith); less = omega (arith, some); x = omega arith; y = omega arith; z = omega arith };
+    both = λ i j k. rw (range-cut (range lz hz) (m + 1) (omega arith) (omega arith) k, and-or-distrib-left);
   }
+    where
+      some-z : (a b : ℕ) → a < b + 1 → NonEmpty (blockOf lx hx ly hy a b)
+      some-z a b h = record { x = some .x; y = some .y; z = h }
 
 -- A block with an empty range has no cell.
 none-right : (p q : Bool) → q ≡ false → (p && q) ≡ false
@@ -125,3 +126,24 @@ module _ (b : BoxRange) (i j k : ℕ) where
   pub empty-z : b .z .end ≤ b .z .first → inBlock b i j k ≡ false
   unfolding inBlock
   empty-z h = none-right (inRange (b .x) i && inRange (b .y) j) (inRange (b .z) k) (range-empty (b .z) k h)
+
+-- A block that is not empty, by the first and the last cell on each axis.
+pub by-ends : (b : BoxRange) → NonEmpty b → b ≡ blockOf (b .x .first) (b .x .end - 1) (b .y .first) (b .y .end - 1) (b .z .first) (b .z .end - 1)
+by-ends b some =
+    let x : b .x .end ≡ b .x .end - 1 + 1 = omega (arith, some .x) in
+    let y : b .y .end ≡ b .y .end - 1 + 1 = omega (arith, some .y) in
+    let z : b .z .end ≡ b .z .end - 1 + 1 = omega (arith, some .z) in
+    λ i. record { x = record { first = b .x .first; end = x i }; y = record { first = b .y .first; end = y i }; z = record { first = b .z .first; end = z i } }
+
+-- A part of a block has room where the block has.
+pub part-room : {forms : List ℤ} {bytes bytes′ : ℕ} {b p : BoxRange} → Room forms bytes b → Part b p → bytes′ ≡ bytes → Room forms bytes′ p
+part-room r h e = record {
+  nx = r .nx;
+  ny = r .ny;
+  nx-most = r .nx-most;
+  ny-most = r .ny-most;
+  x = omega (arith, r .x, h .x);
+  y = omega (arith, r .y, h .y);
+  z = omega (arith, r .z, h .z);
+  cells = λ i j k hi hj hk. rw e (r .cells i j k hi hj (omega (arith, hk, h .z)));
+}

@@ -36,21 +36,8 @@ point-bounded r = record { x = near (r .x .low) (r .x .high); y = near (r .y .lo
 pub triangle-bounded : (s : List ℕ) → BoundedTriangle (triangleAt (fields.triangleOf version1 s))
 triangle-bounded s = let r = triangle-range s in record { v0 = point-bounded (r .v0); v1 = point-bounded (r .v1); v2 = point-bounded (r .v2) }
 
--- ---- the corners of cells: from the origin to the far corner
-along : {o e : ℤ} {n : ℕ} → AxisRange o n e → pos 1 ≤ℤ e → (i : ℕ) → i < n → Within coordinateMax (o +ℤ pos i *ℤ e)
-along {o} {e} {n} a h i l =
-    let ρ = o ∷ e ∷ pos i ∷ pos n ∷ [] in
-    near
-    (≤-trans (a .origin .low) (by-le ρ (var 0) (var 0 ⊕ var 2 ⊗ var 1) (nn (var 2) (nn-pos i) ⊠ le (num 1) (var 1) h ⊞ nn (var 2) (nn-pos i)) tt))
-    (≤-trans (by-le ρ (var 0 ⊕ var 2 ⊗ var 1) (var 0 ⊕ var 3 ⊗ var 1) (le (var 2) (var 3) (pos-le (omega arith)) ⊠ le (num 1) (var 1) h ⊞ le (var 2) (var 3) (pos-le (omega arith))) tt) (a .far))
-
 -- ---- the grid
 module _ {s : List ℕ} {h : Header} (a : AcceptedFile s h) where
-  -- for the header's grid, and from there for any grid with the same numbers
-  header-corners : (i j k : ℕ) → i < h .cells .x → j < h .cells .y → k < h .cells .z → BoundedPoint (cellCorner (gridAt h) i j k)
-  header-corners i j k li lj lk =
-      record { x = along (a .x) (a .edge-some) i li; y = along (a .y) (a .edge-some) j lj; z = along (a .z) (a .edge-some) k lk }
-
   pub ready-grid : (g : Grid) {bytes : ℕ} → gridOf g ≡ gridAt h → mapLength (cellCount h) ≤ bytes → ReadyGrid g bytes
   ready-grid g {bytes} e room = record {
     cells = record {
@@ -67,8 +54,6 @@ module _ {s : List ℕ} {h : Header} (a : AcceptedFile s h) where
         ny = omega (arith, a .y .most);
         nz = omega (arith, a .z .most);
       });
-      corners = λ i j k li lj lk.
-          subst (λ (x : overlap.Grid). BoundedPoint (cellCorner x i j k)) (sym e) (header-corners i j k (rw nx at li) (rw ny at lj) (rw nz at lk));
     };
     room = rw (nx, ny, nz) (omega (arith, room));
   }

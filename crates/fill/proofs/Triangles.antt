@@ -5,31 +5,35 @@
 use mathlib.Core.Bool.{Bool, true, false, _&&_, _||_, or-assoc, or-false, and-or-distrib-left}
 use mathlib.Core.List.{List, [], _∷_, _++_}
 use mathlib.Core.Path.{_≡_, refl, sym, ap, _∙_}
-use Prim.Native.Nat.{ℕ, _+_, _*_, _<_}
+use Prim.Native.Nat.{ℕ, _+_, _*_, _<_, _≤_}
 use native.Mathlib.Decide.{decLt}
 use native.Mathlib.Numerals.{add-one}
 use native.Mathlib.Omega.{arith}
 use borrow.Author.Tests.{lt-ltb, le-ltb}
 use lib.Dec.{ltb}
+use lib.IntN.{ℤ, pos, natAbs}
+use lib.ListN.{getD}
+use Rattle.integers.proofs.Laws.{nn-pos}
 use Rattle.overlap.specs.declared.BoxRange.{BoxRange}
 use Rattle.overlap.specs.Geometry.{Triangle}
 use Rattle.overlap.specs.Grid as overlap
 use Rattle.overlap.specs.Range.{inRange, PicksBox}
-use Rattle.overlap.specs.Setup.{setupOf}
+use Rattle.overlap.specs.Lent.{cellsX, cellsY}
+use Rattle.overlap.specs.Setup.{formsIn}
 use Rattle.overlap.proofs.Forms.{overlaps-by-range}
 use Rattle.grid.specs.Cells.{xOfCell, yOfCell, zOfCell}
 use Rattle.grid.specs.Map.{isFilled, tabulate}
 use Rattle.grid.proofs.Numbers.{number-lt, number-of, x-lt, y-lt, z-lt}
 use Rattle.fill.specs.declared.Grid.{Grid}
 use Rattle.fill.specs.Steel.{anyOf, fillsCell, filledBy}
-use Rattle.fill.specs.Block.{gridOf, inBlock, InGrid, cellTest, wanted, Fills, Adds, AddsTriangle, ReadyCells}
+use Rattle.fill.specs.Block.{gridOf, inBlock, cellTest, wanted, Room, FillsFor, Adds, AddsTriangle, ReadyCells}
 use Rattle.fill.proofs.Blocks.{in-block}
 use Rattle.fill.proofs.Ways.{none}
 
 -- ---- one triangle
 module _ (g : Grid) (ready : ReadyCells g) (t : Triangle) {b : BoxRange} (picks : PicksBox t (gridOf g) b) where
   -- Of the grid's cells, those wanted in the box are those that the rule fills; no other number is wanted.
-  wanted-is : (n : ℕ) → wanted g (setupOf t (g .edge)) b n ≡ (ltb n (g .nx * g .ny * g .nz) && fillsCell (gridOf g) n t)
+  wanted-is : (n : ℕ) → wanted (g .nx) (g .ny) (formsIn (gridOf g) t) b n ≡ (ltb n (g .nx * g .ny * g .nz) && fillsCell (gridOf g) n t)
   unfolding wanted inBlock
   wanted-is n = go (decLt n (g .nx * g .ny * g .nz))
     where
@@ -42,23 +46,35 @@ module _ (g : Grid) (ready : ReadyCells g) (t : Triangle) {b : BoxRange} (picks 
       k : ℕ
       k = zOfCell (g .nx) (g .ny) n
 
-      go : Dec (n < g .nx * g .ny * g .nz) → wanted g (setupOf t (g .edge)) b n ≡ (ltb n (g .nx * g .ny * g .nz) && fillsCell (gridOf g) n t)
+      go : Dec (n < g .nx * g .ny * g .nz) → wanted (g .nx) (g .ny) (formsIn (gridOf g) t) b n ≡ (ltb n (g .nx * g .ny * g .nz) && fillsCell (gridOf g) n t)
       go (yes l) =
           rw (lt-ltb n (g .nx * g .ny * g .nz) l)
-          (sym (overlaps-by-range t (gridOf g) picks i j k (x-lt (g .nx) (g .ny) n (ready .some-x)) (y-lt (g .nx) (g .ny) n (ready .some-y)) (z-lt (g .nx) (g .ny) (g .nz) n (ready .some-x) (ready .some-y) l)))
+          (sym (overlaps-by-range t (gridOf g) i j k picks (x-lt (g .nx) (g .ny) n (ready .some-x)) (y-lt (g .nx) (g .ny) n (ready .some-y)) (z-lt (g .nx) (g .ny) (g .nz) n (ready .some-x) (ready .some-y) l)))
       go (no l) =
           rw (le-ltb n (g .nx * g .ny * g .nz) (omega arith))
-          (none (inRange (b .x) i && inRange (b .y) j && inRange (b .z) k) (cellTest g (setupOf t (g .edge)) i j k)
+          (none (inRange (b .x) i && inRange (b .y) j && inRange (b .z) k) (cellTest (formsIn (gridOf g) t) i j k)
           (λ e _.
           let a = in-block b i j k e in
           let lt = number-lt (g .nx) (g .ny) (g .nz) i j k (omega (arith, a .x, picks .x .within)) (omega (arith, a .y, picks .y .within)) (omega (arith, a .z, picks .z .within)) in
           l (rw (number-of (g .nx) (g .ny) n) at lt)))
 
-  pub adds-triangle : {old new : List ℕ} → Fills g (setupOf t (g .edge)) b old new → AddsTriangle g t old new
+  pub adds-triangle : {old new : List ℕ} → FillsFor (g .nx) (g .ny) (formsIn (gridOf g) t) b old new → AddsTriangle g t old new
   adds-triangle {old} f = record { len = f .len; each = λ n. f .cells n ∙ ap (λ (w : Bool). isFilled old n || w) (wanted-is n) }
 
-  pub box-in-grid : InGrid g b
-  box-in-grid = record { x = picks .x .within; y = picks .y .within; z = picks .z .within }
+  pub box-room : (forms : List ℤ) {bytes : ℕ} → getD forms 32 (pos 0) ≡ pos (g .nx) → getD forms 33 (pos 0) ≡ pos (g .ny) → g .nx * g .ny * g .nz ≤ 8 * bytes → Room forms bytes b
+  box-room forms hx hy room =
+      let x : cellsX forms ≡ g .nx = ap natAbs hx in
+      let y : cellsY forms ≡ g .ny = ap natAbs hy in
+      record {
+        nx = rw hx (nn-pos (g .nx));
+        ny = rw hy (nn-pos (g .ny));
+        nx-most = rw x (ready .nx);
+        ny-most = rw y (ready .ny);
+        x = rw x (picks .x .within);
+        y = rw y (picks .y .within);
+        z = omega (arith, picks .z .within, ready .nz);
+        cells = rw (x, y) (λ i j k hi hj hk. omega (arith, room, number-lt (g .nx) (g .ny) (g .nz) i j k hi hj (omega (arith, picks .z .within))));
+      }
 
 -- ---- triangle by triangle
 any-append : {A : Type 0} (p : A → Bool) (xs ys : List A) → anyOf p (xs ++ ys) ≡ (anyOf p xs || anyOf p ys)

@@ -6,23 +6,19 @@ use frame::Limit;
 use frame::Position;
 use frame::Triangle;
 use overlap::BoxRange;
-use overlap::CellRange;
-use overlap::Setup;
 use overlap::Vector;
 ghost use mathlib.Core.Path.{_≡_};
-ghost use Prim.Native.Nat.{_+_, _*_, _<_, _≤_};
+ghost use mathlib.Core.Bool.{true};
+ghost use Prim.Native.Nat.{_*_, _<_, _≤_};
 ghost use lib.ListN.{length};
 ghost use Rattle.frame.specs.Questions.{checked};
 ghost use Rattle.frame.specs.declared.Checked.the-variants.{Accepted};
-ghost use lib.IntN.{pos, _+ℤ_, _*ℤ_};
-ghost use Rattle.integers.specs.Within.{Within};
-ghost use Rattle.overlap.specs.Bounds.{coordinateMax, cellEdgeMax, BoundedSetup, BoundedTriangle};
-ghost use Rattle.overlap.specs.Grid.{cellCorner};
+ghost use Rattle.overlap.specs.Bounds.{BoundedSetup, BoundedTriangle};
+ghost use Rattle.overlap.specs.Lent.{setupAt};
 ghost use Rattle.overlap.specs.Setup.{pointOf};
-ghost use Rattle.grid.specs.Cells.{cellNumber};
 ghost use Rattle.grid.specs.Map.{mapLength};
 ghost use Rattle.fill.specs.Steel.{pointAt, triangleAt, gridAt, cellCount, steel, filling, filledBytes};
-ghost use Rattle.fill.specs.Block.{gridOf, widthOf, sizeOf, block, NonEmpty, InGrid, Cut, Halved, Emptiness, Fills, AddsTriangle, AddsSteel, ReadyCells, ReadyGrid, blockMay};
+ghost use Rattle.fill.specs.Block.{gridOf, blockOf, sizeOf, Emptiness, NonEmpty, Room, blockMay, CutReady, CutInTwo, Fills, AddsTriangle, AddsSteel, ReadyGrid};
 
 // What a fill answers: the number of filled cells, or the first limit broken.
 pub enum Filling {
@@ -41,16 +37,17 @@ struct Grid {
     z: i64,
 }
 
-// A range of cells cut in two.
-struct Ranges {
-    low: CellRange,
-    high: CellRange,
-}
-
-// A block of cells cut in two.
+// A block of cells cut in two: which halves may have a filled cell, the last cells of the lower half, and the first
+// cells of the upper. The lower half begins where the block does, and the upper half ends where it does.
 struct Halves {
-    low: BoxRange,
-    high: BoxRange,
+    lower: bool,
+    upper: bool,
+    hx: usize,
+    hy: usize,
+    hz: usize,
+    lx: usize,
+    ly: usize,
+    lz: usize,
 }
 
 // Puts questions 1 to 8, then replaces the map by the map of the file, and counts its filled cells.
@@ -141,8 +138,8 @@ fn fill_triangle(map: &mut [u8], grid: Grid, triangle: Triangle)
     if is_empty(block) {
         return;
     }
-    let setup = overlap::set_up(v0, v1, v2, grid.edge);
-    fill_block(map, grid, setup, block);
+    let forms = overlap::triangle_forms(v0, v1, v2, origin, grid.edge, grid.nx, grid.ny);
+    fill_box(map, &forms, block);
 }
 
 // A position of the file, for the overlap test.
@@ -172,173 +169,164 @@ fn is_empty(b: BoxRange) -> bool
     z.end <= z.first
 }
 
-// Fills each cell of the block that no form rules out. The block is halved down to single cells; a block that
-// a form rules out is not entered.
-fn fill_block(map: &mut [u8], grid: Grid, setup: Setup, b: BoxRange)
-    requires { ⌜ ReadyGrid grid (length (now map)) × BoundedSetup setup × NonEmpty b × InGrid grid b ⌝ }
-    ensures { λ _. ⌜ Fills grid setup b (now (map .entry)) (now (map .exit)) ⌝ }
+// Fills each cell of a box of cells that no form rules out.
+fn fill_box(map: &mut [u8], forms: &[i64; 34], b: BoxRange)
+    requires { ⌜ Room (now forms) (length (now map)) b × NonEmpty b × BoundedSetup (setupAt (now forms)) ⌝ }
+    ensures { λ _. ⌜ Fills (now (forms .entry)) b (now (map .entry)) (now (map .exit)) ⌝ }
 {
-    if may_fill(grid, setup, b) {
-        if size(b) == 3 {
-            let n = first_cell(grid, b);
-            grid::fill_cell(map, n);
-        } else {
-            let halves = halve(b);
-            let low = halves.low;
-            let high = halves.high;
-            fill_block(map, grid, setup, low);
-            fill_block(map, grid, setup, high);
-        }
+    let x = b.x;
+    let y = b.y;
+    let z = b.z;
+    let hx = x.end - 1;
+    let hy = y.end - 1;
+    let hz = z.end - 1;
+    if overlap::may_overlap(forms, x.first, hx, y.first, hy, z.first, hz) {
+        fill_block(map, forms, x.first, hx, y.first, hy, z.first, hz);
     }
 }
 
-// May a cell of the block be filled?
-fn may_fill(grid: Grid, setup: Setup, b: BoxRange) -> bool
-    requires { ⌜ ReadyCells grid × BoundedSetup setup × NonEmpty b × InGrid grid b ⌝ }
-    ensures { λ r. ⌜ r ≡ blockMay grid setup b ⌝ }
+// Fills each cell of a block that no form rules out, where none rules out the block. The block is halved down to single
+// cells; a half that a form rules out is not entered.
+fn fill_block(
+    map: &mut [u8],
+    forms: &[i64; 34],
+    lx: usize,
+    hx: usize,
+    ly: usize,
+    hy: usize,
+    lz: usize,
+    hz: usize,
+)
+    requires { ⌜ Room (now forms) (length (now map)) (blockOf lx hx ly hy lz hz) × NonEmpty (blockOf lx hx ly hy lz hz) × BoundedSetup (setupAt (now forms)) × (blockMay (setupAt (now forms)) lx hx ly hy lz hz ≡ true) ⌝ }
+    ensures { λ _. ⌜ Fills (now (forms .entry)) (blockOf lx hx ly hy lz hz) (now (map .entry)) (now (map .exit)) ⌝ }
 {
-    let x = b.x;
-    let y = b.y;
-    let z = b.z;
-    let low = corner(grid, x.first, y.first, z.first);
-    let high = corner(grid, x.end - 1, y.end - 1, z.end - 1);
-    overlap::may_overlap(setup, low, high)
-}
-
-// The lowest corner of a cell.
-fn corner(grid: Grid, i: usize, j: usize, k: usize) -> Vector
-    requires { ⌜ ReadyCells grid × (i < grid .nx) × (j < grid .ny) × (k < grid .nz) ⌝ }
-    ensures { λ r. ⌜ (pointOf r ≡ cellCorner (gridOf grid) i j k) ⌝ }
-{
-    let x = along(grid.x, i, grid.edge);
-    let y = along(grid.y, j, grid.edge);
-    let z = along(grid.z, k, grid.edge);
-    Vector { x, y, z }
-}
-
-// origin + i × edge
-fn along(origin: i64, i: usize, edge: i64) -> i64
-    requires { ⌜ Within coordinateMax origin × (i < 64) × Within cellEdgeMax edge ⌝ }
-    ensures { λ r. ⌜ r ≡ origin +ℤ pos i *ℤ edge ⌝ }
-{
-    let offset = integers::from_index(i) * edge;
-    origin + offset
-}
-
-// The number of the block's lowest cell.
-fn first_cell(grid: Grid, b: BoxRange) -> usize
-    requires { ⌜ (grid .nx ≤ 64) × (grid .ny ≤ 64) × (grid .nz ≤ 64) × NonEmpty b × InGrid grid b ⌝ }
-    ensures { λ r. ⌜ r ≡ cellNumber (grid .nx) (grid .ny) (b .x .first) (b .y .first) (b .z .first) ⌝ }
-{
-    let x = b.x;
-    let y = b.y;
-    let z = b.z;
-    grid::cell_number(grid.nx, grid.ny, x.first, y.first, z.first)
-}
-
-// How many cells a range has.
-fn width(r: CellRange) -> usize
-    requires { ⌜ r .first ≤ r .end ⌝ }
-    ensures { λ n. ⌜ n ≡ widthOf r ⌝ }
-{
-    r.end - r.first
-}
-
-// The sum of the block's sides.
-fn size(b: BoxRange) -> usize
-    requires { ⌜ NonEmpty b × (b .x .end ≤ 64) × (b .y .end ≤ 64) × (b .z .end ≤ 64) ⌝ }
-    ensures { λ r. ⌜ r ≡ sizeOf b ⌝ }
-{
-    let x = b.x;
-    let y = b.y;
-    let z = b.z;
-    width(x) + width(y) + width(z)
-}
-
-// A range cut in the middle.
-fn cut(r: CellRange) -> Ranges
-    requires { ⌜ 1 < widthOf r ⌝ }
-    ensures { λ t. ⌜ Cut r (t .low) (t .high) ⌝ }
-{
-    let middle = r.first + (r.end - r.first) / 2;
-    let low = CellRange {
-        first: r.first,
-        end: middle,
-    };
-    let high = CellRange {
-        first: middle,
-        end: r.end,
-    };
-    Ranges { low, high }
+    if lx + ly + lz == hx + hy + hz {
+        let n = grid::cell_number(overlap::cells_x(forms), overlap::cells_y(forms), lx, ly, lz);
+        grid::fill_cell(map, n);
+    } else {
+        let half = cut(forms, lx, hx, ly, hy, lz, hz);
+        if half.lower {
+            fill_block(map, forms, lx, half.hx, ly, half.hy, lz, half.hz);
+        }
+        if half.upper {
+            fill_block(map, forms, half.lx, hx, half.ly, hy, half.lz, hz);
+        }
+    }
 }
 
 // The block cut in two across its longest side.
-fn halve(b: BoxRange) -> Halves
-    requires { ⌜ NonEmpty b × (3 < sizeOf b) ⌝ }
-    ensures { λ r. ⌜ Halved b (r .low) (r .high) ⌝ }
+fn cut(
+    forms: &[i64; 34],
+    lx: usize,
+    hx: usize,
+    ly: usize,
+    hy: usize,
+    lz: usize,
+    hz: usize,
+) -> Halves
+    requires { ⌜ CutReady (setupAt (now forms)) lx hx ly hy lz hz × (3 < sizeOf (blockOf lx hx ly hy lz hz)) ⌝ }
+    ensures { λ r. ⌜ CutInTwo (setupAt (now (forms .entry))) lx hx ly hy lz hz r ⌝ }
 {
-    let x = b.x;
-    let y = b.y;
-    let z = b.z;
-    let along_x = width(x);
-    let along_y = width(y);
-    let along_z = width(z);
+    let along_x = hx - lx;
+    let along_y = hy - ly;
+    let along_z = hz - lz;
     if along_y <= along_x {
         if along_z <= along_x {
-            return halve_x(x, y, z);
+            return cut_x(forms, lx, hx, ly, hy, lz, hz);
         }
-        return halve_z(x, y, z);
+        return cut_z(forms, lx, hx, ly, hy, lz, hz);
     }
     if along_z <= along_y {
-        return halve_y(x, y, z);
+        return cut_y(forms, lx, hx, ly, hy, lz, hz);
     }
-    halve_z(x, y, z)
+    cut_z(forms, lx, hx, ly, hy, lz, hz)
+}
+
+// The last cell of the lower half of a range.
+fn middle(l: usize, h: usize) -> usize
+    requires { ⌜ (l < h) × (h < 64) ⌝ }
+    ensures { λ r. ⌜ (l ≤ r) × (r < h) ⌝ }
+{
+    (l + h) / 2
 }
 
 // The block cut across x.
-fn halve_x(x: CellRange, y: CellRange, z: CellRange) -> Halves
-    requires { ⌜ NonEmpty (block x y z) × (1 < widthOf x) ⌝ }
-    ensures { λ r. ⌜ Halved (block x y z) (r .low) (r .high) ⌝ }
+fn cut_x(
+    forms: &[i64; 34],
+    lx: usize,
+    hx: usize,
+    ly: usize,
+    hy: usize,
+    lz: usize,
+    hz: usize,
+) -> Halves
+    requires { ⌜ CutReady (setupAt (now forms)) lx hx ly hy lz hz × (lx < hx) ⌝ }
+    ensures { λ r. ⌜ CutInTwo (setupAt (now (forms .entry))) lx hx ly hy lz hz r ⌝ }
 {
-    let two = cut(x);
-    let low = two.low;
-    let high = two.high;
-    let first = BoxRange { x: low, y, z };
-    let second = BoxRange { x: high, y, z };
+    let m = middle(lx, hx);
+    let passing = overlap::cut_test(forms, 0, 10, 20, m, ly, hy, lz, hz);
     Halves {
-        low: first,
-        high: second,
+        lower: passing.lower,
+        upper: passing.upper,
+        hx: m,
+        hy,
+        hz,
+        lx: m + 1,
+        ly,
+        lz,
     }
 }
 
 // The block cut across y.
-fn halve_y(x: CellRange, y: CellRange, z: CellRange) -> Halves
-    requires { ⌜ NonEmpty (block x y z) × (1 < widthOf y) ⌝ }
-    ensures { λ r. ⌜ Halved (block x y z) (r .low) (r .high) ⌝ }
+fn cut_y(
+    forms: &[i64; 34],
+    lx: usize,
+    hx: usize,
+    ly: usize,
+    hy: usize,
+    lz: usize,
+    hz: usize,
+) -> Halves
+    requires { ⌜ CutReady (setupAt (now forms)) lx hx ly hy lz hz × (ly < hy) ⌝ }
+    ensures { λ r. ⌜ CutInTwo (setupAt (now (forms .entry))) lx hx ly hy lz hz r ⌝ }
 {
-    let two = cut(y);
-    let low = two.low;
-    let high = two.high;
-    let first = BoxRange { x, y: low, z };
-    let second = BoxRange { x, y: high, z };
+    let m = middle(ly, hy);
+    let passing = overlap::cut_test(forms, 10, 20, 0, m, lz, hz, lx, hx);
     Halves {
-        low: first,
-        high: second,
+        lower: passing.lower,
+        upper: passing.upper,
+        hx,
+        hy: m,
+        hz,
+        lx,
+        ly: m + 1,
+        lz,
     }
 }
 
 // The block cut across z.
-fn halve_z(x: CellRange, y: CellRange, z: CellRange) -> Halves
-    requires { ⌜ NonEmpty (block x y z) × (1 < widthOf z) ⌝ }
-    ensures { λ r. ⌜ Halved (block x y z) (r .low) (r .high) ⌝ }
+fn cut_z(
+    forms: &[i64; 34],
+    lx: usize,
+    hx: usize,
+    ly: usize,
+    hy: usize,
+    lz: usize,
+    hz: usize,
+) -> Halves
+    requires { ⌜ CutReady (setupAt (now forms)) lx hx ly hy lz hz × (lz < hz) ⌝ }
+    ensures { λ r. ⌜ CutInTwo (setupAt (now (forms .entry))) lx hx ly hy lz hz r ⌝ }
 {
-    let two = cut(z);
-    let low = two.low;
-    let high = two.high;
-    let first = BoxRange { x, y, z: low };
-    let second = BoxRange { x, y, z: high };
+    let m = middle(lz, hz);
+    let passing = overlap::cut_test(forms, 20, 0, 10, m, lx, hx, ly, hy);
     Halves {
-        low: first,
-        high: second,
+        lower: passing.lower,
+        upper: passing.upper,
+        hx,
+        hy,
+        hz: m,
+        lx,
+        ly,
+        lz: m + 1,
     }
 }

@@ -6,3 +6,7 @@ pub mod Ranges
 pub mod Corners
 -- The rule of a cell and of a block of cells, by the set-up's forms.
 pub mod Forms
+-- The test of the halves of a block.
+pub mod Cuts
+-- The half that the first of several tests rules out.
+pub mod Rulings

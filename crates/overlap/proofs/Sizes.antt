@@ -2,7 +2,7 @@
 use mathlib.Core.Path.{_≡_}
 use mathlib.Core.List.{List}
 use mathlib.Core.Bool.{Bool, true, false, cond}
-use Prim.Native.Nat.{ℕ, zero-le}
+use Prim.Native.Nat.{ℕ, _≤_, zero-le}
 use lib.Dec.{lit≤}
 use lib.IntN.{ℤ, pos}
 use lib.Signed.{ltZ}
@@ -10,15 +10,18 @@ use Rattle.integers.specs.Within.{Within}
 use Rattle.integers.proofs.Expr.{nth}
 use Rattle.integers.proofs.Bounds.{within-add, within-sub, within-mul, within-neg, within-weaken}
 use Rattle.integers.proofs.MinMax.{within-min, within-max}
-use Rattle.overlap.specs.Geometry.{Triangle, point}
+use Rattle.overlap.specs.Geometry.{Point, Triangle, point}
 use Rattle.overlap.specs.Rule.{normal, turned}
-use Rattle.overlap.specs.Setup.{component, planeForms, edgeForm, edgeForms, setupOf}
-use Rattle.overlap.specs.Bounds.{coordinateMax, differenceMax, normalMax, cellEdgeMax}
-use Rattle.overlap.specs.Bounds.{BoundedTriangle, BoundedPlane, BoundedEdge, BoundedEdges, BoundedSetup}
+use Rattle.overlap.specs.Setup.{component, planeForms, edgeForm, edgeForms, setupOf, measuredFrom}
+use Rattle.overlap.specs.Bounds.{offsetMax, differenceMax, normalMax, cellEdgeMax}
+use Rattle.overlap.specs.Bounds.{BoundedPoint, BoundedTriangle, TriangleWithin, BoundedPlane, BoundedEdge, BoundedEdges, BoundedSetup}
 use Rattle.overlap.specs.Block.{farEnd}
 
 pub within-zero : {B : ℕ} → Within B (pos 0)
 within-zero = record { within = zero-le }
+
+pub within-index : {B n : ℕ} {z : ℤ} → z ≡ pos n → n ≤ B → Within B z
+within-index e h = rw e (record { within = h })
 
 -- ---- choices
 within-cond : {B : ℕ} {x y : ℤ} (t : Bool) → Within B x → Within B y → Within B (cond t x y)
@@ -37,7 +40,7 @@ within-far m h k = within-cond (ltZ m (pos 0)) h k
 
 -- ---- the forms of a triangle
 abbrev C : ℤ → Type 0
-C z = Within coordinateMax z
+C z = Within offsetMax z
 
 pub component-within : {a0 b0 a1 b1 a2 b2 : ℤ} → C a0 → C b0 → C a1 → C b1 → C a2 → C b2 → Within normalMax (component a0 b0 a1 b1 a2 b2)
 component-within h0 k0 h1 k1 h2 k2 =
@@ -54,9 +57,9 @@ module _ {s : ℤ} (hs : Within cellEdgeMax s) where
       let up = within-add (within-add (within-max _ _ within-zero dx) (within-max _ _ within-zero dy)) (within-max _ _ within-zero dz) in
       let down = within-add (within-add (within-min _ _ within-zero dx) (within-min _ _ within-zero dy)) (within-min _ _ within-zero dz) in
       record {
-        nx = hx;
-        ny = hy;
-        nz = hz;
+        nx = dx;
+        ny = dy;
+        nz = dz;
         above = within-weaken (lit≤ tt) (within-sub up at);
         below = within-weaken (lit≤ tt) (within-sub down at);
       }
@@ -66,7 +69,7 @@ module _ {s : ℤ} (hs : Within cellEdgeMax s) where
       let a = within-turned n (within-neg hb) in
       let b = within-turned n ha in
       let reach = within-add (within-max _ _ within-zero (within-mul hs a)) (within-max _ _ within-zero (within-mul hs b)) in
-      record { a = a; b = b; c = within-weaken (lit≤ tt) (within-sub reach (within-add (within-mul a ka) (within-mul b kb))) }
+      record { a = within-mul hs a; b = within-mul hs b; c = within-weaken (lit≤ tt) (within-sub reach (within-add (within-mul a ka) (within-mul b kb))) }
 
   edges-bounded : (n : ℤ) {a0 b0 a1 b1 a2 b2 : ℤ} → C a0 → C b0 → C a1 → C b1 → C a2 → C b2 → BoundedEdges (edgeForms n a0 b0 a1 b1 a2 b2 s)
   edges-bounded n h0 k0 h1 k1 h2 k2 = record {
@@ -75,7 +78,7 @@ module _ {s : ℤ} (hs : Within cellEdgeMax s) where
     e2 = edge-bounded n (within-sub h0 h2) (within-sub k0 k2) h2 k2;
   }
 
-  pub setup-bounded : {t : Triangle} → BoundedTriangle t → BoundedSetup (setupOf t s)
+  pub setup-bounded : {t : Triangle} → TriangleWithin offsetMax t → BoundedSetup (setupOf t s)
   unfolding setupOf
   setup-bounded {t} h =
       let a = h .v0 in
@@ -91,3 +94,12 @@ module _ {s : ℤ} (hs : Within cellEdgeMax s) where
         yz = edges-bounded (normal t .x) (a .y) (a .z) (b .y) (b .z) (c .y) (c .z);
         zx = edges-bounded (normal t .y) (a .z) (a .x) (b .z) (b .x) (c .z) (c .x);
       }
+
+-- ---- corners measured from a grid's origin
+module _ {o : Point} (h : BoundedPoint o) where
+  pub measured-within : {t : Triangle} → BoundedTriangle t → TriangleWithin offsetMax (measuredFrom o t)
+  measured-within k = record {
+    v0 = record { x = within-sub (k .v0 .x) (h .x); y = within-sub (k .v0 .y) (h .y); z = within-sub (k .v0 .z) (h .z) };
+    v1 = record { x = within-sub (k .v1 .x) (h .x); y = within-sub (k .v1 .y) (h .y); z = within-sub (k .v1 .z) (h .z) };
+    v2 = record { x = within-sub (k .v2 .x) (h .x); y = within-sub (k .v2 .y) (h .y); z = within-sub (k .v2 .z) (h .z) };
+  }

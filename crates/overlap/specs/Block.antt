@@ -1,4 +1,4 @@
--- The test of a block of cells: the cells whose lowest corners range from `low` to `high` on each axis. A single cell is the block with low = high.
+-- The test of a block of cells: the cells whose numbers range from `low` to `high` on each axis. A single cell is the block with low = high.
 -- Definitions only.
 use mathlib.Core.Bool.{Bool, cond, _&&_}
 use lib.IntN.{ℤ, pos, _+ℤ_, _*ℤ_}
@@ -25,10 +25,14 @@ farValue n c low high =
     n .x *ℤ farEnd (n .x) (low .x) (high .x) +ℤ n .y *ℤ farEnd (n .y) (low .y) (high .y) +ℤ n .z *ℤ farEnd (n .z) (low .z) (high .z) +ℤ c
 
 -- Plane: the least value over the block is ≤ 0 and the greatest ≥ 0.
+abbrev pub leastValue : PlaneForms → (low high : Point) → ℤ
+leastValue f low high = farValue (point (f .nx) (f .ny) (f .nz)) (f .below) high low
+
+abbrev pub greatestValue : PlaneForms → (low high : Point) → ℤ
+greatestValue f low high = farValue (point (f .nx) (f .ny) (f .nz)) (f .above) low high
+
 abbrev pub planeTest : PlaneForms → (low high : Point) → Bool
-planeTest f low high =
-    let n = point (f .nx) (f .ny) (f .nz) in
-    leZ (farValue n (f .below) high low) (pos 0) && leZ (pos 0) (farValue n (f .above) low high)
+planeTest f low high = leZ (leastValue f low high) (pos 0) && leZ (pos 0) (greatestValue f low high)
 
 -- Edges: the greatest value of a · u + b · v + c over the block is ≥ 0, where in the plane of the two axes the block ranges from (la, lb) to (ha, hb).
 abbrev pub formTest : (a b c la ha lb hb : ℤ) → Bool

@@ -1,6 +1,6 @@
 -- How large the numbers may be, so that no sum and no product of them leaves 64 bits. Definitions only.
 use mathlib.Core.List.{List, [], _∷_}
-use Prim.Native.Nat.{ℕ, zero, suc, _^_, _<_}
+use Prim.Native.Nat.{ℕ, zero, suc, _^_, _<_, _≤_}
 use lib.IntN.{pos}
 use lib.Signed.{_<ℤ_}
 use Rattle.integers.specs.Within.{Within}
@@ -11,79 +11,106 @@ use Rattle.overlap.specs.declared.Setup.{Setup}
 use Rattle.overlap.specs.Geometry.{Point, Triangle}
 use Rattle.overlap.specs.Grid.{Grid}
 
--- A coordinate, the difference of two, a component of a normal, and a cell's edge.
+-- A coordinate, one measured from a grid's origin, the difference of two such, a component of a normal, a cell's edge, and a cell's number on an axis.
 abbrev pub coordinateMax : ℕ
 coordinateMax = 2 ^ 18
 
+abbrev pub offsetMax : ℕ
+offsetMax = 2 ^ 19
+
 abbrev pub differenceMax : ℕ
-differenceMax = 2 ^ 19
+differenceMax = 2 ^ 20
 
 abbrev pub normalMax : ℕ
-normalMax = 2 ^ 39
+normalMax = 2 ^ 41
 
 abbrev pub cellEdgeMax : ℕ
 cellEdgeMax = 2 ^ 13
 
--- The constants of a plane's forms and of an edge's.
+abbrev pub indexMax : ℕ
+indexMax = 64
+
+-- A coefficient and the constants of a plane's forms; those of an edge's.
+abbrev pub planeSlopeMax : ℕ
+planeSlopeMax = 2 ^ 54
+
 abbrev pub planeMax : ℕ
-planeMax = 2 ^ 59
+planeMax = 2 ^ 62
+
+abbrev pub edgeSlopeMax : ℕ
+edgeSlopeMax = 2 ^ 33
 
 abbrev pub edgeMax : ℕ
-edgeMax = 2 ^ 39
+edgeMax = 2 ^ 41
 
 -- ---- the numbers that a function of plain numbers takes, in its parameters' order
--- n coordinates, and further numbers.
-abbrev pub coordinates : ℕ → List ℕ → List ℕ
-coordinates zero bs = bs
-coordinates (suc n) bs = coordinateMax ∷ coordinates n bs
+-- n numbers with one bound, and further numbers.
+abbrev pub each : ℕ → ℕ → List ℕ → List ℕ
+each b zero bs = bs
+each b (suc n) bs = b ∷ each b n bs
 
 -- A normal, a corner and a cell's edge.
 abbrev pub planeBounds : List ℕ
-planeBounds = normalMax ∷ normalMax ∷ normalMax ∷ coordinates 3 (cellEdgeMax ∷ [])
+planeBounds = each normalMax 3 (each offsetMax 3 (cellEdgeMax ∷ []))
 
 -- In the plane of two axes: an edge, its starting corner and a cell's edge; three corners and a cell's edge.
 abbrev pub edgeBounds : List ℕ
-edgeBounds = differenceMax ∷ differenceMax ∷ coordinates 2 (cellEdgeMax ∷ [])
+edgeBounds = each differenceMax 2 (each offsetMax 2 (cellEdgeMax ∷ []))
 
 abbrev pub edgesBounds : List ℕ
-edgesBounds = coordinates 6 (cellEdgeMax ∷ [])
+edgesBounds = each offsetMax 6 (cellEdgeMax ∷ [])
 
--- A normal, a constant and the ends of a block; in the plane of two axes, an edge's form and the ends of a block.
+-- A plane's coefficients, a constant and the ends of a block; in the plane of two axes, an edge's form and the ends of a block.
 abbrev pub valueBounds : List ℕ
-valueBounds = normalMax ∷ normalMax ∷ normalMax ∷ planeMax ∷ coordinates 6 []
+valueBounds = each planeSlopeMax 3 (planeMax ∷ each indexMax 6 [])
 
 abbrev pub formBounds : List ℕ
-formBounds = differenceMax ∷ differenceMax ∷ edgeMax ∷ coordinates 4 []
+formBounds = each edgeSlopeMax 2 (edgeMax ∷ each indexMax 4 [])
+
+-- A cut that leaves a cell behind it, and the ends of a block on other axes.
+abbrev pub cutBounds : ℕ → List ℕ
+cutBounds n = 63 ∷ each indexMax n []
+
+-- Cells' numbers on axes.
+abbrev pub Indices : List ℕ → Type 0
+Indices [] = Unit {0}
+Indices (n ∷ ns) = (n ≤ indexMax) × Indices ns
 
 -- On an axis: the least and the greatest coordinate, the grid's origin and a cell's edge; three corners, the grid's origin and a cell's edge.
 abbrev pub rangeBounds : List ℕ
-rangeBounds = coordinates 3 (cellEdgeMax ∷ [])
+rangeBounds = each coordinateMax 3 (cellEdgeMax ∷ [])
 
 abbrev pub axisBounds : List ℕ
-axisBounds = coordinates 4 (cellEdgeMax ∷ [])
+axisBounds = each coordinateMax 4 (cellEdgeMax ∷ [])
 
 -- ---- points, triangles, forms and grids
-pub record BoundedPoint (p : Point) : Type 0 where
-  pub x : Within coordinateMax (p .x)
-  pub y : Within coordinateMax (p .y)
-  pub z : Within coordinateMax (p .z)
+pub record PointWithin (B : ℕ) (p : Point) : Type 0 where
+  pub x : Within B (p .x)
+  pub y : Within B (p .y)
+  pub z : Within B (p .z)
 
-pub record BoundedTriangle (t : Triangle) : Type 0 where
-  pub v0 : BoundedPoint (t .v0)
-  pub v1 : BoundedPoint (t .v1)
-  pub v2 : BoundedPoint (t .v2)
+pub record TriangleWithin (B : ℕ) (t : Triangle) : Type 0 where
+  pub v0 : PointWithin B (t .v0)
+  pub v1 : PointWithin B (t .v1)
+  pub v2 : PointWithin B (t .v2)
 
--- The forms of such a triangle.
+abbrev pub BoundedPoint : Point → Type 0
+BoundedPoint = PointWithin coordinateMax
+
+abbrev pub BoundedTriangle : Triangle → Type 0
+BoundedTriangle = TriangleWithin coordinateMax
+
+-- The forms of a triangle that is measured from a grid's origin.
 pub record BoundedPlane (f : PlaneForms) : Type 0 where
-  pub nx : Within normalMax (f .nx)
-  pub ny : Within normalMax (f .ny)
-  pub nz : Within normalMax (f .nz)
+  pub nx : Within planeSlopeMax (f .nx)
+  pub ny : Within planeSlopeMax (f .ny)
+  pub nz : Within planeSlopeMax (f .nz)
   pub above : Within planeMax (f .above)
   pub below : Within planeMax (f .below)
 
 pub record BoundedEdge (f : EdgeForm) : Type 0 where
-  pub a : Within differenceMax (f .a)
-  pub b : Within differenceMax (f .b)
+  pub a : Within edgeSlopeMax (f .a)
+  pub b : Within edgeSlopeMax (f .b)
   pub c : Within edgeMax (f .c)
 
 pub record BoundedEdges (f : EdgeForms) : Type 0 where

@@ -1,6 +1,6 @@
 -- Headers and points that stay within the bounds of the overlap test.
 --     ready                 an accepted file's header
---     grid-bounded, corner-bounded   its grid, and the corners of its cells
+--     grid-bounded                   its grid
 --     points-length, point-is        the list of a route's points
 --     inside-grid, point-bounded     a point that passes question 10
 -- Assumes nothing.
@@ -21,7 +21,7 @@ use Rattle.frame.specs.declared.Header.{Header}
 use Rattle.frame.proofs.Accepted.{AxisRange, AcceptedFile}
 use Rattle.overlap.specs.Bounds.{coordinateMax, BoundedPoint, BoundedGrid}
 use Rattle.overlap.specs.Geometry.{Point, point, Axis, xOf, yOf, zOf}
-use Rattle.overlap.specs.Grid.{Grid, cellCorner}
+use Rattle.overlap.specs.Grid.{Grid}
 use Rattle.reach.specs.Reaches.{InsideOn, InsideGrid}
 use Rattle.grid.proofs.Maps.{length-tabulate, getD-tabulate}
 use Rattle.fill.specs.Steel.{gridAt}
@@ -50,13 +50,6 @@ along-bounded : {o e : ℤ} {i : ℕ} → Within originMax o → Within edgeMax 
 along-bounded {i = i} o e h = within-weaken (lit≤ tt) (within-add o (within-mul {A = 64} {a = pos i} (record { within = h }) e))
 
 module _ {h : Header} (r : Ready h) where
-  pub corner-bounded : {i j k : ℕ} → i ≤ 64 → j ≤ 64 → k ≤ 64 → BoundedPoint (cellCorner (gridAt h) i j k)
-  corner-bounded hi hj hk = record {
-    x = along-bounded (r .x .origin) (r .edge) hi;
-    y = along-bounded (r .y .origin) (r .edge) hj;
-    z = along-bounded (r .z .origin) (r .edge) hk;
-  }
-
   pub grid-bounded : BoundedGrid (gridAt h)
   grid-bounded = record {
     origin = record { x = within-weaken (lit≤ tt) (r .x .origin); y = within-weaken (lit≤ tt) (r .y .origin); z = within-weaken (lit≤ tt) (r .z .origin) };

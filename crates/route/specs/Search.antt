@@ -1,5 +1,5 @@
 -- What the functions of the route test ask of a header and of a route, and what the search of a block answers. Definitions only.
-use mathlib.Core.Bool.{true}
+use mathlib.Core.Bool.{Bool, true, false}
 use mathlib.Core.List.{List, _∷_}
 use mathlib.Core.Path.{_≡_}
 use Prim.Native.Nat.{ℕ, _^_, _<_, _≤_}
@@ -14,7 +14,8 @@ use Rattle.overlap.specs.declared.BoxRange.{BoxRange}
 use Rattle.overlap.specs.declared.Setup.{Setup}
 use Rattle.overlap.specs.Geometry.{Triangle}
 use Rattle.overlap.specs.Range.{PicksBox}
-use Rattle.overlap.specs.Setup.{setupOf}
+use Rattle.overlap.specs.Block.{edgesTest}
+use Rattle.overlap.specs.Setup.{formsIn}
 use Rattle.grid.specs.Map.{mapLength, isFilled}
 use Rattle.fill.specs.Steel.{gridAt, cellCount}
 use Rattle.route.specs.declared.Found.{Found}
@@ -51,13 +52,23 @@ lastQuestions h len ns = (leb (mapLength (cellCount h)) len otherwise ShortMap) 
 
 -- ---- a block of cells to search
 pub record InGrid (h : Header) (b : BoxRange) : Type 0 where
-  pub x-from : b .x .first ≤ b .x .end
   pub y-from : b .y .first ≤ b .y .end
   pub x : b .x .end ≤ h .cells .x
   pub y : b .y .end ≤ h .cells .y
   pub z : b .z .end ≤ h .cells .z
 
+-- Row j of layer k, by the forms in the plane YZ alone, which do not see where along the row a cell is.
+abbrev pub rowMay : Setup → (j k : ℕ) → Bool
+rowMay f j k = edgesTest (f .yz) (pos j) (pos j) (pos k) (pos k)
+
+-- r is the first row of layer k, from `first` on and below `end`, that no such form rules out; or `end`.
+pub record NextRow (f : Setup) (k first end r : ℕ) : Type 0 where
+  pub from : first ≤ r
+  pub to : r ≤ end
+  pub skipped : (j : ℕ) → j < r → first ≤ j → rowMay f j k ≡ false
+  pub stopped : r < end → rowMay f r k ≡ true
+
 -- For every triangle with these forms and this box of cells, the search finds the lowest cell filled and touched.
 abbrev pub Finds : Header → List ℕ → Setup → BoxRange → Found → Type 0
 Finds h map f b r =
-    (t : Triangle) → f ≡ setupOf t (h .edge) → PicksBox t (gridAt h) b → r ≡ firstTouched (isFilled map) (gridAt h) t
+    (t : Triangle) → f ≡ formsIn (gridAt h) t → PicksBox t (gridAt h) b → r ≡ firstTouched (isFilled map) (gridAt h) t

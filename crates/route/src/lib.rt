@@ -4,26 +4,23 @@ use frame::Header;
 use frame::Limit;
 use frame::Verdict;
 use overlap::BoxRange;
-use overlap::CellRange;
-use overlap::Setup;
 use overlap::Vector;
 ghost use mathlib.Core.Path.{_≡_};
-ghost use Prim.Native.Nat.{_-_, _*_, _≤_, _<_};
+ghost use Prim.Native.Nat.{_+_, _*_, _≤_, _<_};
 ghost use lib.IntN.{pos, _+ℤ_, _*ℤ_};
 ghost use lib.ListN.{length};
 ghost use Rattle.integers.specs.Within.{Within};
 ghost use Rattle.frame.specs.Questions.{firstBroken, ofEach};
-ghost use Rattle.overlap.specs.Block.{blockTest};
 ghost use Rattle.overlap.specs.Bounds.{BoundedPoint, BoundedSetup};
 ghost use Rattle.overlap.specs.Geometry.{leg};
-ghost use Rattle.overlap.specs.Grid.{cellCorner};
+ghost use Rattle.overlap.specs.Lent.{setupAt};
 ghost use Rattle.overlap.specs.Setup.{pointOf};
 ghost use Rattle.grid.specs.Cells.{cellNumber};
 ghost use Rattle.grid.specs.Map.{mapLength, isFilled};
 ghost use Rattle.fill.specs.Steel.{gridAt, cellCount};
 ghost use Rattle.route.specs.Route.{pointCount, pointsOf, pointAt, firstTouched, tested, insideOn, inside, pointQuestion, answerOf, routeAnswer};
 ghost use Rattle.route.specs.Demand.{DemandOf};
-ghost use Rattle.route.specs.Search.{originMax, edgeMax, Ready, ReadyRoute, lastQuestions, InGrid, Finds};
+ghost use Rattle.route.specs.Search.{originMax, edgeMax, Ready, ReadyRoute, lastQuestions, InGrid, NextRow, Finds};
 
 // What a route test answers: the route is free; or blocked, by the first leg that touches a filled cell, at
 // the lowest such cell; or the first limit broken.
@@ -181,96 +178,69 @@ fn first_touched(header: Header, map: &[u8], a: Vector, b: Vector) -> Found
         z: position.z,
     };
     let block = overlap::box_range(a, b, b, origin, header.edge, cells.x, cells.y, cells.z);
-    let setup = overlap::set_up(a, b, b, header.edge);
-    search(header, map, setup, block)
+    let forms = overlap::triangle_forms(a, b, b, origin, header.edge, cells.x, cells.y);
+    search(header, map, &forms, block)
 }
 
-// The lowest filled cell of the block that no form of the set-up rules out: by layers, rows and cells. A layer
-// or a row that a form rules out is skipped; a cell's bit is looked at before its forms.
-fn search(header: Header, map: &[u8], setup: Setup, block: BoxRange) -> Found
-    requires { ⌜ Ready header × (mapLength (cellCount header) ≤ length (now map)) × BoundedSetup setup × InGrid header block ⌝ }
-    ensures { λ r. ⌜ Finds header (now (map .entry)) setup block r ⌝ }
+// The lowest filled cell of the block that no form rules out: by layers, rows and cells. Rows that a form rules out are
+// skipped, and so whole layers of them; a cell's bit is looked at before its forms.
+fn search(header: Header, map: &[u8], forms: &[i64; 34], block: BoxRange) -> Found
+    requires { ⌜ Ready header × (mapLength (cellCount header) ≤ length (now map)) × BoundedSetup (setupAt (now forms)) × InGrid header block ⌝ }
+    ensures { λ r. ⌜ Finds header (now (map .entry)) (setupAt (now (forms .entry))) block r ⌝ }
 {
     let x = block.x;
     let y = block.y;
     let z = block.z;
-    let last_i = last_cell(x);
-    let last_j = last_cell(y);
+    let cells = header.cells;
     let mut found = Found::Nothing;
     let mut k = z.first;
     'scan: while k < z.end {
-        if !may_touch(header, setup, x.first, last_i, y.first, last_j, k, k) {
-            k += 1;
-            continue 'scan;
-        }
-        let mut j = y.first;
+        let mut j = next_row(forms, k, y.first, y.end);
         'rows: while j < y.end {
-            if !may_touch(header, setup, x.first, last_i, j, j, k, k) {
-                j += 1;
-                continue 'rows;
-            }
             let mut i = x.first;
             'cells: while i < x.end {
-                let n = number(header, i, j, k);
+                let n = grid::cell_number(cells.x, cells.y, i, j, k);
                 if grid::is_filled(map, n) {
-                    if may_touch(header, setup, i, i, j, j, k, k) {
+                    if overlap::may_overlap(forms, i, i, j, j, k, k) {
                         found = Found::Cell(n);
                         break 'scan;
                     }
                 }
                 i += 1;
             }
-            j += 1;
+            j = next_row(forms, k, j + 1, y.end);
         }
         k += 1;
     }
     found
 }
 
-// The last cell of a range, or 0.
-fn last_cell(r: CellRange) -> usize
-    ensures { λ n. ⌜ n ≡ r .end - 1 ⌝ }
+// The first row of layer k, from `first` on and below `end`, that the forms in the plane YZ do not rule out, or `end`.
+// Rows are skipped by blocks: all that are left, then half as many each time that a block is not ruled out.
+fn next_row(forms: &[i64; 34], k: usize, first: usize, end: usize) -> usize
+    requires { ⌜ BoundedSetup (setupAt (now forms)) × (k ≤ 64) × (first ≤ end) × (end ≤ 64) ⌝ }
+    ensures { λ r. ⌜ NextRow (setupAt (now (forms .entry))) k first end r ⌝ }
 {
-    if r.end == 0 { 0 } else { r.end - 1 }
+    let mut j = first;
+    let mut more = 63;
+    while j < end {
+        let last = last_row(j, more, end);
+        if overlap::rows_may_overlap(forms, j, last, k, k) {
+            if more == 0 {
+                return j;
+            }
+            more = more / 2;
+        } else {
+            j = last + 1;
+        }
+    }
+    j
 }
 
-// The number of cell (i, j, k).
-fn number(header: Header, i: usize, j: usize, k: usize) -> usize
-    requires { ⌜ Ready header × (i < 64) × (j < 64) × (k < 64) ⌝ }
-    ensures { λ r. ⌜ r ≡ cellNumber (header .cells .x) (header .cells .y) i j k ⌝ }
+// The row `more` rows behind j, or the last below `end`.
+fn last_row(j: usize, more: usize, end: usize) -> usize
+    requires { ⌜ (j < end) × (more < 64) × (end ≤ 64) ⌝ }
+    ensures { λ r. ⌜ (j ≤ r) × (r < end) × (r ≤ j + more) ⌝ }
 {
-    let cells = header.cells;
-    grid::cell_number(cells.x, cells.y, i, j, k)
-}
-
-// May a cell of the block from (i0, j0, k0) to (i1, j1, k1) be touched, the boxes aside? Of a single cell, the
-// answer is the rule's.
-fn may_touch(
-    header: Header,
-    setup: Setup,
-    i0: usize,
-    i1: usize,
-    j0: usize,
-    j1: usize,
-    k0: usize,
-    k1: usize,
-) -> bool
-    requires { ⌜ Ready header × BoundedSetup setup × (i0 ≤ 64) × (i1 ≤ 64) × (j0 ≤ 64) × (j1 ≤ 64) × (k0 ≤ 64) × (k1 ≤ 64) ⌝ }
-    ensures { λ r. ⌜ r ≡ blockTest setup (cellCorner (gridAt header) i0 j0 k0) (cellCorner (gridAt header) i1 j1 k1) ⌝ }
-{
-    let low = corner(header, i0, j0, k0);
-    let high = corner(header, i1, j1, k1);
-    overlap::may_overlap(setup, low, high)
-}
-
-// The lowest corner of a cell.
-fn corner(header: Header, i: usize, j: usize, k: usize) -> Vector
-    requires { ⌜ Ready header × (i ≤ 64) × (j ≤ 64) × (k ≤ 64) ⌝ }
-    ensures { λ r. ⌜ (pointOf r ≡ cellCorner (gridAt header) i j k) × BoundedPoint (pointOf r) ⌝ }
-{
-    let origin = header.origin;
-    let x = along(origin.x, i, header.edge);
-    let y = along(origin.y, j, header.edge);
-    let z = along(origin.z, k, header.edge);
-    Vector { x, y, z }
+    if end <= j + more { end - 1 } else { j + more }
 }

@@ -135,14 +135,17 @@ fn walk_columns<const W: usize>(map: &mut Map, setup: &Setup, block: Block) {
     }
 }
 
-// ---- the box of cells halved down to single cells, without the blocks that a form rules out
+// ---- the box of cells halved down to single cells, without the halves that a form rules out
 
 pub fn halving(file: &[u8], map: &mut [u8]) -> Result<u32, Refusal> {
     fill_by(file, map, |map, t| {
         if let Some([x, y, z]) = cells_of_box(t, &map.grid) {
-            let setup = Setup::new(t, map.grid.edge);
+            let forms = forms(t, &map.grid);
             let range = |r: std::ops::Range<usize>| Side(r.start, r.end);
-            fill_block(map, &setup, [range(x), range(y), range(z)]);
+            let sides = [range(x), range(y), range(z)];
+            if whole(&forms, sides) {
+                fill_block(map, &forms, sides[0].0, sides[0].1 - 1, sides[1].0, sides[1].1 - 1, sides[2].0, sides[2].1 - 1);
+            }
         }
     })
 }
@@ -155,36 +158,144 @@ impl Side {
     fn width(self) -> usize {
         self.1 - self.0
     }
+    fn low(self) -> i64 {
+        self.0 as i64
+    }
+    fn high(self) -> i64 {
+        self.1 as i64 - 1
+    }
 }
 
-fn fill_block(map: &mut Map, setup: &Setup, sides: [Side; 3]) {
-    let [x, y, z] = sides;
-    let low = corner(&map.grid, x.0, y.0, z.0);
-    let high = corner(&map.grid, x.1 - 1, y.1 - 1, z.1 - 1);
-    if !may_overlap(setup, low, high) {
-        return;
-    }
-    if x.width() + y.width() + z.width() == 3 {
-        return map.set([x.0, y.0, z.0]);
-    }
-    let longest = if y.width() <= x.width() {
-        if z.width() <= x.width() {
-            0
-        } else {
-            2
+/// The forms in cell numbers. For each axis: the normal there, and the three edges in the plane of this axis and the
+/// next; then the plane's two constants.
+type Forms = [i64; 32];
+
+fn forms(t: &Triangle, grid: &Grid) -> Forms {
+    let setup = Setup::new(t, grid.edge);
+    let mut forms = [0; 32];
+    let o = grid.origin;
+    forms[30] = setup.above + (0..3).map(|w| setup.normal[w] * o[w]).sum::<i64>();
+    forms[31] = setup.below + (0..3).map(|w| setup.normal[w] * o[w]).sum::<i64>();
+    for a in 0..3 {
+        forms[10 * a] = setup.normal[a] * grid.edge;
+        let w = (a + 2) % 3;
+        let (u, v) = PLANES[w];
+        for i in 0..3 {
+            let e = setup.edges[w][i];
+            forms[10 * a + 1 + 3 * i] = e.a * grid.edge;
+            forms[10 * a + 2 + 3 * i] = e.b * grid.edge;
+            forms[10 * a + 3 + 3 * i] = e.c + e.a * o[u] + e.b * o[v];
         }
-    } else if z.width() <= y.width() {
-        1
+    }
+    forms
+}
+
+fn whole(f: &Forms, [x, y, z]: [Side; 3]) -> bool {
+    let greatest = f[0] * far_end(f[0], x.low(), x.high()) + f[10] * far_end(f[10], y.low(), y.high()) + f[20] * far_end(f[20], z.low(), z.high()) + f[30];
+    let least = f[0] * far_end(f[0], x.high(), x.low()) + f[10] * far_end(f[10], y.high(), y.low()) + f[20] * far_end(f[20], z.high(), z.low()) + f[31];
+    let three = |i: usize, a: Side, b: Side| (0..3).all(|e| {
+        let (m, n, c) = (f[i + 3 * e], f[i + 3 * e + 1], f[i + 3 * e + 2]);
+        0 <= m * far_end(m, a.low(), a.high()) + n * far_end(n, b.low(), b.high()) + c
+    });
+    least <= 0 && greatest >= 0 && three(1, x, y) && three(11, y, z) && three(21, z, x)
+}
+
+#[derive(Clone, Copy)]
+struct Passing {
+    lower: bool,
+    upper: bool,
+}
+
+fn rule_out(p: Passing, upper: bool) -> Passing {
+    if upper {
+        Passing { lower: p.lower, upper: false }
     } else {
-        2
-    };
-    let Side(first, end) = sides[longest];
-    let middle = first + (end - first) / 2;
-    let (mut lower, mut upper) = (sides, sides);
-    lower[longest] = Side(first, middle);
-    upper[longest] = Side(middle, end);
-    fill_block(map, setup, lower);
-    fill_block(map, setup, upper);
+        Passing { lower: false, upper: p.upper }
+    }
+}
+
+fn edge_cut(p: Passing, k: i64, l: i64, c: i64, middle: i64, low: i64, high: i64) -> Passing {
+    let at = far_end(k, middle + 1, middle);
+    if k * at + l * far_end(l, low, high) + c < 0 {
+        rule_out(p, k < 0)
+    } else {
+        p
+    }
+}
+
+fn edges_cut(p: Passing, f: &Forms, m: usize, n: usize, c: usize, middle: i64, low: i64, high: i64) -> Passing {
+    let p = edge_cut(p, f[m], f[n], f[c], middle, low, high);
+    let p = edge_cut(p, f[m + 3], f[n + 3], f[c + 3], middle, low, high);
+    edge_cut(p, f[m + 6], f[n + 6], f[c + 6], middle, low, high)
+}
+
+fn plane_cut(f: &Forms, a: usize, b: usize, c: usize, middle: i64, lb: i64, hb: i64, lc: i64, hc: i64) -> Passing {
+    let (k, m, n) = (f[a], f[b], f[c]);
+    let p = Passing { lower: true, upper: true };
+    let greatest = k * far_end(k, middle + 1, middle) + m * far_end(m, lb, hb) + n * far_end(n, lc, hc) + f[30];
+    let p = if greatest < 0 { rule_out(p, k < 0) } else { p };
+    let least = k * far_end(k, middle, middle + 1) + m * far_end(m, hb, lb) + n * far_end(n, hc, lc) + f[31];
+    if 0 < least { rule_out(p, 0 <= k) } else { p }
+}
+
+fn cut_test(f: &Forms, a: usize, b: usize, c: usize, middle: i64, lb: i64, hb: i64, lc: i64, hc: i64) -> Passing {
+    let p = plane_cut(f, a, b, c, middle, lb, hb, lc, hc);
+    let p = edges_cut(p, f, a + 1, a + 2, a + 3, middle, lb, hb);
+    edges_cut(p, f, c + 2, c + 1, c + 3, middle, lc, hc)
+}
+
+#[derive(Clone, Copy)]
+struct Cut { lower: bool, upper: bool, hx: usize, hy: usize, hz: usize, lx: usize, ly: usize, lz: usize }
+
+fn cut(f: &Forms, lx: usize, hx: usize, ly: usize, hy: usize, lz: usize, hz: usize) -> Cut {
+    let wx = hx - lx;
+    let wy = hy - ly;
+    let wz = hz - lz;
+    if wy <= wx {
+        if wz <= wx {
+            return cut_x(f, lx, hx, ly, hy, lz, hz);
+        }
+        return cut_z(f, lx, hx, ly, hy, lz, hz);
+    }
+    if wz <= wy {
+        return cut_y(f, lx, hx, ly, hy, lz, hz);
+    }
+    cut_z(f, lx, hx, ly, hy, lz, hz)
+}
+
+fn middle(l: usize, h: usize) -> usize {
+    (l + h) / 2
+}
+
+fn cut_x(f: &Forms, lx: usize, hx: usize, ly: usize, hy: usize, lz: usize, hz: usize) -> Cut {
+    let m = middle(lx, hx);
+    let p = cut_test(f, 0, 10, 20, m as i64, ly as i64, hy as i64, lz as i64, hz as i64);
+    Cut { lower: p.lower, upper: p.upper, hx: m, hy, hz, lx: m + 1, ly, lz }
+}
+
+fn cut_y(f: &Forms, lx: usize, hx: usize, ly: usize, hy: usize, lz: usize, hz: usize) -> Cut {
+    let m = middle(ly, hy);
+    let p = cut_test(f, 10, 20, 0, m as i64, lz as i64, hz as i64, lx as i64, hx as i64);
+    Cut { lower: p.lower, upper: p.upper, hx, hy: m, hz, lx, ly: m + 1, lz }
+}
+
+fn cut_z(f: &Forms, lx: usize, hx: usize, ly: usize, hy: usize, lz: usize, hz: usize) -> Cut {
+    let m = middle(lz, hz);
+    let p = cut_test(f, 20, 0, 10, m as i64, lx as i64, hx as i64, ly as i64, hy as i64);
+    Cut { lower: p.lower, upper: p.upper, hx, hy, hz: m, lx, ly, lz: m + 1 }
+}
+
+fn fill_block(map: &mut Map, f: &Forms, lx: usize, hx: usize, ly: usize, hy: usize, lz: usize, hz: usize) {
+    if lx + ly + lz == hx + hy + hz {
+        return map.set([lx, ly, lz]);
+    }
+    let c = cut(f, lx, hx, ly, hy, lz, hz);
+    if c.lower {
+        fill_block(map, f, lx, c.hx, ly, c.hy, lz, c.hz);
+    }
+    if c.upper {
+        fill_block(map, f, c.lx, hx, c.ly, hy, c.lz, hz);
+    }
 }
 
 /// The end of a range at which m × q is greatest.

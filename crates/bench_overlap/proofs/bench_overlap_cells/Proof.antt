@@ -1,16 +1,18 @@
 -- `bench_overlap::bench_overlap_cells` meets its contract. Assumes nothing.
 use borrow.Author.Tests.{lt-leb, le-leb}
-use mathlib.Core.Path.{_≡_, sym, ap₂, _∙_}
+use mathlib.Core.Path.{_≡_, sym, ap, _∙_}
 use native.Mathlib.Omega.{arith}
 use lib.Dec.{lit≤}
-use lib.IntN.{ℤ, pos}
+use lib.IntN.{pos}
 use mir.Syntax.{w64}
 use mir.Val.{toZ, ofZ}
 use Rattle.integers.specs.Within.{Within}
 use Rattle.integers.proofs.Bounds.{within-weaken}
 use Rattle.integers.proofs.Machine.{back}
 use Rattle.overlap.specs.declared.Setup.{Setup}
-use Rattle.overlap.specs.Setup.{triangleOf, setupOf}
+use Rattle.overlap.specs.Bounds.{coordinateMax}
+use Rattle.overlap.specs.Geometry.{point}
+use Rattle.overlap.specs.Setup.{triangleOf, setupOf, measuredFrom}
 use Rattle.grid.specs.Map.{countBelow}
 use Rattle.bench_overlap.specs.Cells.{passes, triangleFrom, passingOf}
 use Rattle.bench_overlap.proofs.bench_overlap_cells.Statement.{statement}
@@ -35,24 +37,27 @@ returns : tie.Need-returns
 unfolding passingOf
 returns c = rw (lt-leb 9 _ (c .if1 .taken))
 
-set-up-requires : tie.Need-set-up-requires
-set-up-requires c κs =
+triangle-forms-requires : tie.Need-triangle-forms-requires
+triangle-forms-requires c κs =
     let v2 = c .before in
     let v1 = v2 .before in
-    (record { v0 = v1 .before .corner .ensures .1; v1 = v1 .corner2 .ensures .1; v2 = v2 .corner3 .ensures .1 }, within-weaken (lit≤ tt) (edge-small c))
-
-count-requires : tie.Need-count-requires
-count-requires c κs = (c .set-up .ensures .bounded, edge-small (c .before))
+    let zero : Within coordinateMax (pos 0) = record { within = omega arith } in (
+      record { v0 = v1 .before .corner .ensures .1; v1 = v1 .corner2 .ensures .1; v2 = v2 .corner3 .ensures .1 },
+      record { x = zero; y = zero; z = zero },
+      within-weaken (lit≤ tt) (edge-small c),
+      lit≤ tt,
+      lit≤ tt,
+    )
 
 returns-2 : tie.Need-returns-2
 unfolding passingOf
 returns-2 c =
-    let u = c .before in
+    let u = c .before .before in
     let f = u .before in
     let long = f .before .before .before .before in
-    let ns = long .before .args .numbers .now in
+    let o = point (pos 0) (pos 0) (pos 0) in
     c .count .ensures
-    ∙ ap₂ (λ (g : Setup) (e : ℤ). countBelow (passes g e) 32768) (u .set-up .ensures .is ∙ ap₂ setupOf (triangle-is f) (edge-is f)) (edge-is f)
+    ∙ ap (λ (g : Setup). countBelow (passes g) 32768) (u .triangle-forms .ensures .is ∙ (λ i. setupOf (measuredFrom o (triangle-is f i)) (edge-is f i)))
     ∙ sym (rw (le-leb 9 _ (long .if1 .left)))
 
 pub bench-overlap-cells-spec : {M : Type 1} → statement M
@@ -64,6 +69,6 @@ bench-overlap-cells-spec =
     (λ c κs. (omega arith, omega arith))
     (λ c κs. (omega arith, omega arith))
     (λ c κs. omega arith)
-    set-up-requires
-    count-requires
+    triangle-forms-requires
+    (λ c κs. c .before .triangle-forms .ensures .bounded)
     returns-2)

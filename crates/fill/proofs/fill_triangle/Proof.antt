@@ -1,23 +1,24 @@
 -- `fill::fill_triangle` meets its contract. Assumes nothing.
 use borrow.Author.Needs.{needs}
-use mathlib.Core.Path.{_≡_, ap₂, _∙_, subst, subst₂}
+use mathlib.Core.Path.{_≡_, sym, _∙_, subst, subst₂}
 use lib.Dec.{lit<}
-use lib.IntN.{ℤ}
+use lib.IntN.{ℤ, natAbs}
 use mir.Syntax.{w64}
 use mir.Val.{toZ, ofZ}
 use mir.Facts.{toZ-ofZ}
 use Rattle.integers.proofs.Bounds.{within-fits}
 use Rattle.overlap.specs.declared.Setup.{Setup}
-use Rattle.overlap.specs.Bounds.{BoundedTriangle}
+use Rattle.overlap.specs.Lent.{setupAt}
+use Rattle.overlap.specs.Bounds.{BoundedPoint, BoundedTriangle}
 use Rattle.overlap.specs.Geometry.{Triangle}
 use Rattle.overlap.specs.Grid as overlap
 use Rattle.overlap.specs.Range as range
 use Rattle.overlap.specs.Range.{PicksBox}
-use Rattle.overlap.specs.Setup.{triangleOf, setupOf}
+use Rattle.overlap.specs.Setup.{triangleOf, setupOf, measuredFrom, formsIn}
 use Rattle.fill.specs.Steel.{triangleAt}
-use Rattle.fill.specs.Block.{gridOf, Fills}
+use Rattle.fill.specs.Block.{gridOf, FillsFor}
 use Rattle.fill.proofs.Ways.{fills-empty}
-use Rattle.fill.proofs.Triangles.{adds-triangle, box-in-grid}
+use Rattle.fill.proofs.Triangles.{adds-triangle, box-room}
 use Rattle.fill.proofs.fill_triangle.Statement.{statement}
 use Rattle.fill.proofs.fill_triangle.Tie as tie
 
@@ -49,38 +50,47 @@ picks c =
     let v = c .before .before .before in
     subst₂ (λ (t : Triangle) (g : overlap.Grid). PicksBox t g (c .box-range .result)) (corners v) (grid (start v)) (c .box-range .ensures)
 
-setup : (c : tie.After-set-up) → let s = start (c .before .before .before .before .before .before .before) in c .set-up .result ≡ setupOf (triangleAt (s .args .triangle)) (s .args .grid .edge)
-setup c =
-    let v = c .before .before .before .before .before .before .before in
-    c .set-up .ensures .is ∙ ap₂ setupOf (corners v) (edge (start v))
+-- the forms
+abbrev vectors : tie.After-triangle-forms → tie.After-vector3
+vectors c = c .before .before .before .before .before .before .before
+
+forms : (c : tie.After-triangle-forms) → let s = start (vectors c) in setupAt (c .triangle-forms .result) ≡ formsIn (gridOf (s .args .grid)) (triangleAt (s .args .triangle))
+forms c =
+    let v = vectors c in
+    c .triangle-forms .ensures .is
+    ∙ (λ i. setupOf (measuredFrom (grid (start v) i .origin) (corners v i)) (grid (start v) i .edge))
 
 returns : tie.Need-returns
 returns c =
     let b = c .before .before in
     let s = start (b .before .before .before) in
+    let g = s .args .grid in
     let t = triangleAt (s .args .triangle) in
-    adds-triangle (s .args .grid) (s .pre .0 .cells) t (picks b)
-    (fills-empty (s .args .grid) (setupOf t (s .args .grid .edge)) (b .box-range .result) (s .args .map .now) (c .before .is-empty .ensures .none (c .if1 .taken)))
+    adds-triangle g (s .pre .0 .cells) t (picks b)
+    (fills-empty (g .nx) (g .ny) (formsIn (gridOf g) t) (b .box-range .result) (s .args .map .now) (c .before .is-empty .ensures .none (c .if1 .taken)))
 
-fill-block-requires : tie.Need-fill-block-requires
-fill-block-requires c κs =
-    let e = c .before .before .before in
+fill-box-requires : tie.Need-fill-box-requires
+fill-box-requires c κs =
+    let u = c .before .before in
+    let e = u .before .before in
     let b = e .before .before in
     let s = start (b .before .before .before) in (
-      s .pre .0,
-      c .before .set-up .ensures .bounded,
+      box-room (s .args .grid) (s .pre .0 .cells) (triangleAt (s .args .triangle)) (picks b) (u .triangle-forms .result) (u .triangle-forms .ensures .x) (u .triangle-forms .ensures .y) (s .pre .0 .room),
       e .before .is-empty .ensures .some (e .if1 .left),
-      box-in-grid (s .args .grid) (s .pre .0 .cells) (triangleAt (s .args .triangle)) (picks b),
+      u .triangle-forms .ensures .bounded,
     )
 
 returns-2 : tie.Need-returns-2
 returns-2 c =
     let f = c .before .before in
-    let u = f .before .before in
+    let u = f .before .before .before in
     let b = u .before .before .before .before in
     let s = start (b .before .before .before) in
-    adds-triangle (s .args .grid) (s .pre .0 .cells) (triangleAt (s .args .triangle)) (picks b)
-    (subst (λ (x : Setup). Fills (s .args .grid) x (b .box-range .result) (s .args .map .now) (f .fill-block .last .0)) (setup u) (f .fill-block .ensures))
+    let g = s .args .grid in
+    let h = u .triangle-forms .ensures in
+    adds-triangle g (s .pre .0 .cells) (triangleAt (s .args .triangle)) (picks b)
+    (subst (λ (x : Setup). FillsFor (g .nx) (g .ny) x (b .box-range .result) (s .args .map .now) (f .fill-box .last .0)) (forms u)
+    (subst₂ (λ (x y : ℤ). FillsFor (natAbs x) (natAbs y) (setupAt (u .triangle-forms .result)) (b .box-range .result) (s .args .map .now) (f .fill-box .last .0)) (h .x) (h .y) (f .fill-box .ensures)))
 
 pub fill-triangle-spec : {M : Type 1} → statement M
 fill-triangle-spec =
@@ -92,7 +102,10 @@ fill-triangle-spec =
     (λ c κs. let v = c .before .before in (bounded v, rw (grid (start v)) (start v .pre .0 .cells .grid)))
     (λ c κs. search needs)
     returns
-    (λ c κs. let v = c .before .before .before .before .before .before in (bounded v, rw (edge (start v)) (start v .pre .0 .cells .grid .edge)))
-    fill-block-requires
+    (λ c κs.
+    let v = c .before .before .before .before .before .before in
+    let s = start v in
+    (bounded v, subst (λ (g : overlap.Grid). BoundedPoint (g .origin)) (sym (grid s)) (s .pre .0 .cells .grid .origin), rw (edge s) (s .pre .0 .cells .grid .edge), s .pre .0 .cells .nx, s .pre .0 .cells .ny))
+    fill-box-requires
     (λ c. search needs)
     returns-2)

@@ -10,7 +10,7 @@ use Rattle.integers.proofs.Expr.{Expr, var, neg, _⊕_, _⊖_, _⊗_, eval}
 use Rattle.integers.proofs.Machine.{Asks, asks, run, bound, bounded}
 use Rattle.integers.proofs.Bounds.{within-neg}
 use Rattle.integers.proofs.MinMax.{within-max}
-use Rattle.overlap.specs.Bounds.{edgeBounds, differenceMax}
+use Rattle.overlap.specs.Bounds.{differenceMax, edgeSlopeMax, each, edgeBounds}
 use Rattle.overlap.specs.Rule.{turned}
 use Rattle.overlap.specs.Setup.{edgeForm}
 use Rattle.overlap.proofs.Sizes.{within-turned, within-zero}
@@ -32,7 +32,7 @@ abbrev ρm : tie.After-turned2 → List ℤ
 ρm c = c .before .turned .result ∷ c .turned2 .result ∷ ρ (c .before .before)
 
 abbrev bm : List ℕ
-bm = differenceMax ∷ differenceMax ∷ edgeBounds
+bm = each differenceMax 2 edgeBounds
 
 ins-m : (c : tie.After-turned2) → Withins bm (ρm c)
 ins-m c =
@@ -51,7 +51,7 @@ abbrev ρr : tie.After-max2 → List ℤ
 ρr c = c .before .max .result ∷ c .max2 .result ∷ ρm (c .before .before)
 
 abbrev br : List ℕ
-br = 2 ^ 32 ∷ 2 ^ 32 ∷ bm
+br = each edgeSlopeMax 2 bm
 
 ins-r : (c : tie.After-max2) → Withins br (ρr c)
 ins-r c =
@@ -76,8 +76,8 @@ returns c =
     let m = c .before .before in
     let h = ins-r c in
     λ i. record {
-      a = (run (ρr c) (var 2) br tt h ∙ a-is (m .before)) i;
-      b = (run (ρr c) (var 3) br tt h ∙ b-is m) i;
+      a = (run (ρr c) (var 8 ⊗ var 2) br tt h ∙ ap (λ (z : ℤ). m .before .before .args .s *ℤ z) (a-is (m .before))) i;
+      b = (run (ρr c) (var 8 ⊗ var 3) br tt h ∙ ap (λ (z : ℤ). m .before .before .args .s *ℤ z) (b-is m)) i;
       c = (run (ρr c) e br tt h ∙ constant c) i;
     }
 
@@ -89,8 +89,8 @@ edge-form-spec =
     (λ c κs. bounded (ρ c) (neg (var 1) ∷ []) edgeBounds (2 ^ 62 ∷ []) tt (c .pre) .0)
     (λ c κs. bounded (ρ (c .before)) (var 0 ∷ []) edgeBounds (2 ^ 62 ∷ []) tt (c .before .pre) .0)
     (λ c. asks (ρm c) (var 6 ⊗ var 0) bm tt (ins-m c) .2)
+    (λ c. asks (ρm c) (var 6 ⊗ var 1) bm tt (ins-m c) .2)
     (λ c κs. tt)
-    (λ c. asks (ρm (c .before)) (var 6 ⊗ var 1) bm tt (ins-m (c .before)) .2)
     (λ c κs. tt)
     (λ c. needed c .0 .2)
     (λ c. needed c .1 .0 .2)

@@ -6,7 +6,7 @@ use lib.IntN.{ℤ}
 use Rattle.integers.specs.Within.{Withins}
 use Rattle.integers.proofs.Expr.{Expr, var, _⊕_, _⊗_}
 use Rattle.integers.proofs.Machine.{Asks, asks, run, learnt}
-use Rattle.overlap.specs.Bounds.{coordinateMax, valueBounds}
+use Rattle.overlap.specs.Bounds.{indexMax, each, valueBounds}
 use Rattle.overlap.specs.Block.{farEnd}
 use Rattle.overlap.proofs.Sizes.{Far, within-far}
 use Rattle.overlap.proofs.far_value.Statement.{statement}
@@ -36,7 +36,7 @@ abbrev ρe : tie.After-far-end3 → List ℤ
 ρe c = c .before .before .far-end .result ∷ c .before .far-end2 .result ∷ c .far-end3 .result ∷ ρ (c .before .before .before)
 
 abbrev be : List ℕ
-be = coordinateMax ∷ coordinateMax ∷ coordinateMax ∷ valueBounds
+be = each indexMax 3 valueBounds
 
 ins : (c : tie.After-far-end3) → Withins be (ρe c)
 ins c =

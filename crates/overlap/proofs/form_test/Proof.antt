@@ -7,7 +7,7 @@ use lib.Signed.{leZ}
 use Rattle.integers.specs.Within.{Withins}
 use Rattle.integers.proofs.Expr.{Expr, var, _⊕_, _⊗_}
 use Rattle.integers.proofs.Machine.{Asks, asks, run, learnt}
-use Rattle.overlap.specs.Bounds.{coordinateMax, formBounds}
+use Rattle.overlap.specs.Bounds.{indexMax, each, formBounds}
 use Rattle.overlap.specs.Block.{farEnd}
 use Rattle.overlap.proofs.Sizes.{Far, within-far}
 use Rattle.overlap.proofs.form_test.Statement.{statement}
@@ -32,7 +32,7 @@ abbrev ρe : tie.After-far-end2 → List ℤ
 ρe c = c .before .far-end .result ∷ c .far-end2 .result ∷ ρ (c .before .before)
 
 abbrev be : List ℕ
-be = coordinateMax ∷ coordinateMax ∷ formBounds
+be = each indexMax 2 formBounds
 
 ins : (c : tie.After-far-end2) → Withins be (ρe c)
 ins c =

@@ -1,7 +1,7 @@
 -- `overlap::plane_forms` meets its contract. Each value is an expression over the parameters and what the calls gave.
 use mathlib.Core.List.{List, [], _∷_}
 use mathlib.Core.Path.{_≡_, _∙_, ap}
-use Prim.Native.Nat.{ℕ, _^_}
+use Prim.Native.Nat.{ℕ}
 use lib.IntN.{ℤ, pos, _+ℤ_, _-ℤ_}
 use Rattle.integers.specs.Within.{Withins}
 use Rattle.integers.specs.Order.{minℤ, maxℤ}
@@ -9,7 +9,7 @@ use Rattle.integers.proofs.Expr.{Expr, var, _⊕_, _⊖_, _⊗_, eval}
 use Rattle.integers.proofs.Machine.{Asks, mach, asks, run, bound}
 use Rattle.integers.proofs.MinMax.{within-min, within-max}
 use Rattle.overlap.specs.Geometry.{point}
-use Rattle.overlap.specs.Bounds.{planeBounds}
+use Rattle.overlap.specs.Bounds.{planeSlopeMax, each, planeBounds}
 use Rattle.overlap.specs.Setup.{planeForms}
 use Rattle.overlap.proofs.Sizes.{within-zero}
 use Rattle.overlap.proofs.plane_forms.Statement.{statement}
@@ -36,7 +36,7 @@ dz = var 6 ⊗ var 2
 
 -- three results of `max` or `min`, and the parameters
 abbrev bs : List ℕ
-bs = 2 ^ 52 ∷ 2 ^ 52 ∷ 2 ^ 52 ∷ planeBounds
+bs = each planeSlopeMax 3 planeBounds
 
 abbrev e : Expr
 e = var 0 ⊕ var 1 ⊕ var 2 ⊖ (var 3 ⊗ var 6 ⊕ var 4 ⊗ var 7 ⊕ var 5 ⊗ var 8)
@@ -109,9 +109,9 @@ returns : tie.Need-returns
 returns c =
     let s = start c in
     λ i. record {
-      nx = run (ρ s) (var 0) planeBounds tt (s .pre) i;
-      ny = run (ρ s) (var 1) planeBounds tt (s .pre) i;
-      nz = run (ρ s) (var 2) planeBounds tt (s .pre) i;
+      nx = run (ρ s) dx planeBounds tt (s .pre) i;
+      ny = run (ρ s) dy planeBounds tt (s .pre) i;
+      nz = run (ρ s) dz planeBounds tt (s .pre) i;
       above = above-is (c .before .before .before) i;
       below = below-is c i;
     }

@@ -11,7 +11,7 @@ use Rattle.overlap.specs.declared.EdgeForms.{EdgeForms}
 use Rattle.overlap.specs.declared.Setup.{Setup}
 use Rattle.overlap.specs.Geometry.{Triangle, point, xOf, yOf, zOf}
 use Rattle.overlap.specs.Rule.{normal}
-use Rattle.overlap.specs.Bounds.{normalMax, cellEdgeMax, coordinates, planeBounds, edgesBounds, BoundedSetup}
+use Rattle.overlap.specs.Bounds.{offsetMax, normalMax, cellEdgeMax, each, planeBounds, edgesBounds, BoundedSetup}
 use Rattle.overlap.specs.Setup.{triangleOf, component, planeForms, edgeForms, edgeFormsIn, setupOf}
 use Rattle.overlap.proofs.Sizes.{component-within, setup-bounded}
 use Rattle.overlap.proofs.set_up.Statement.{statement}
@@ -24,7 +24,7 @@ abbrev ρ : tie.Start → List ℤ
     a .v0 .x ∷ a .v0 .y ∷ a .v0 .z ∷ a .v1 .x ∷ a .v1 .y ∷ a .v1 .z ∷ a .v2 .x ∷ a .v2 .y ∷ a .v2 .z ∷ a .s ∷ []
 
 abbrev bs : List ℕ
-bs = coordinates 9 (cellEdgeMax ∷ [])
+bs = each offsetMax 9 (cellEdgeMax ∷ [])
 
 ins : (c : tie.Start) → Withins bs (ρ c)
 ins c =
@@ -67,7 +67,7 @@ abbrev ρn : tie.After-component3 → List ℤ
 ρn c = c .before .before .component .result ∷ c .before .component2 .result ∷ c .component3 .result ∷ ρ (begin c)
 
 abbrev bn : List ℕ
-bn = normalMax ∷ normalMax ∷ normalMax ∷ bs
+bn = each normalMax 3 bs
 
 ins-n : (c : tie.After-component3) → Withins bn (ρn c)
 ins-n c =
@@ -142,9 +142,9 @@ pub set-up-spec : {M : Type 1} → statement M
 set-up-spec =
     tie.close
     (tie.spec
-    (λ c κs. let s = c .before .before .before .before .before .before .before .before .before in bounded (ρ s) in-yz bs (coordinates 6 []) tt (ins s))
-    (λ c κs. let s = start c in bounded (ρ s) in-zx bs (coordinates 6 []) tt (ins s))
-    (λ c κs. let s = start (c .before) in bounded (ρ s) in-xy bs (coordinates 6 []) tt (ins s))
+    (λ c κs. let s = c .before .before .before .before .before .before .before .before .before in bounded (ρ s) in-yz bs (each offsetMax 6 []) tt (ins s))
+    (λ c κs. let s = start c in bounded (ρ s) in-zx bs (each offsetMax 6 []) tt (ins s))
+    (λ c κs. let s = start (c .before) in bounded (ρ s) in-xy bs (each offsetMax 6 []) tt (ins s))
     (λ c κs. bounded (ρn c) plane bn planeBounds tt (ins-n c))
     (λ c κs. let m = c .before in bounded (ρn m) xy bn edgesBounds tt (ins-n m))
     (λ c κs. let m = c .before .before in bounded (ρn m) yz bn edgesBounds tt (ins-n m))

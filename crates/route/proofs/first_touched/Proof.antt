@@ -1,16 +1,17 @@
 -- `route::first_touched` meets its contract. Assumes nothing.
-use mathlib.Core.Path.{_≡_, ap, _∙_, subst}
+use mathlib.Core.Path.{_≡_, sym, _∙_, subst}
 use lib.Dec.{lit<}
 use lib.IntN.{ℤ}
 use mir.Syntax.{w64}
 use mir.Val.{toZ, ofZ}
 use mir.Facts.{toZ-ofZ}
 use Rattle.integers.proofs.Bounds.{within-fits}
-use Rattle.overlap.specs.Bounds.{BoundedTriangle}
+use Rattle.overlap.specs.Bounds.{BoundedPoint, BoundedTriangle}
 use Rattle.overlap.specs.Geometry.{Triangle, leg}
 use Rattle.overlap.specs.Grid.{Grid}
+use Rattle.overlap.specs.Lent.{setupAt}
 use Rattle.overlap.specs.Range.{gridOf, PicksBox}
-use Rattle.overlap.specs.Setup.{pointOf, setupOf}
+use Rattle.overlap.specs.Setup.{pointOf, setupOf, measuredFrom, formsIn}
 use Rattle.fill.specs.Steel.{gridAt}
 use Rattle.route.proofs.Ready.{grid-bounded}
 use Rattle.route.proofs.first_touched.Statement.{statement}
@@ -42,29 +43,37 @@ start c = c .before .before .before .before .before .before
 picks : (c : tie.After-box-range) → PicksBox (line (start c)) (gridAt (start c .args .header)) (c .box-range .result)
 picks c = subst (λ (g : Grid). PicksBox (line (start c)) g (c .box-range .result)) (grid (start c)) (c .box-range .ensures)
 
+-- the forms
+forms : (c : tie.After-triangle-forms) → let s = start (c .before .before) in setupAt (c .triangle-forms .result) ≡ formsIn (gridAt (s .args .header)) (line s)
+forms c =
+    let s = start (c .before .before) in
+    c .triangle-forms .ensures .is ∙ (λ i. setupOf (measuredFrom (grid s i .origin) (line s)) (grid s i .edge))
+
 search-requires : tie.Need-search-requires
 search-requires c κs =
-    let b = c .before .before in
+    let b = c .before .before .before in
     let s = start b in
     let p = picks b in (
       s .pre .0,
       s .pre .1,
-      c .set-up .ensures .bounded,
-      record { x-from = p .x .ordered; y-from = p .y .ordered; x = p .x .within; y = p .y .within; z = p .z .within },
+      c .before .triangle-forms .ensures .bounded,
+      record { y-from = p .y .ordered; x = p .x .within; y = p .y .within; z = p .z .within },
     )
 
 returns : tie.Need-returns
 returns c =
-    let u = c .before in
+    let u = c .before .before in
     let b = u .before .before in
-    let s = start b in
-    c .search .ensures (line s) (u .set-up .ensures .is ∙ ap (setupOf (line s)) (edge s)) (picks b)
+    c .search .ensures (line (start b)) (forms u) (picks b)
 
 pub first-touched-spec : {M : Type 1} → statement M
 first-touched-spec =
     tie.close
     (tie.spec
     (λ c κs. let s = c .before .before .before .before .before in (bounded s, rw (grid s) (grid-bounded (s .pre .0))))
-    (λ c κs. let s = start (c .before) in (bounded s, rw (edge s) (grid-bounded (s .pre .0) .edge)))
+    (λ c κs.
+    let s = start (c .before) in
+    let g = grid-bounded (s .pre .0) in
+    (bounded s, subst (λ (g : Grid). BoundedPoint (g .origin)) (sym (grid s)) (g .origin), rw (edge s) (g .edge), s .pre .0 .x .most, s .pre .0 .y .most))
     search-requires
     returns)
