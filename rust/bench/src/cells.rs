@@ -1,7 +1,7 @@
 //! The overlap test alone, of each of 32 × 32 × 32 cells, the first at the origin. From each cell to
 //! the next all three coordinates change, so that no part of a test serves two cells.
 
-use crate::peers::may_overlap;
+use crate::frame::Grid;
 use crate::rule::{Setup, Triangle};
 
 /// How many of the cells pass the test for the triangle, the boxes aside.
@@ -27,11 +27,16 @@ fn rattle([v0, v1, v2]: &Triangle, edge: i64) -> usize {
 
 /// The same in Rust.
 fn rust(t: &Triangle, edge: i64) -> usize {
-    let setup = Setup::new(t, edge);
+    let grid = Grid {
+        cells: [32; 3],
+        edge,
+        origin: [0; 3],
+    };
+    let forms = Setup::in_cells(t, &grid);
     let mut sum = 0;
-    for n in 0..32768usize {
-        let p = [n % 32, (n + n / 32) % 32, (n + n / 1024) % 32].map(|i| i as i64 * edge);
-        sum += may_overlap(&setup, p, p) as usize;
+    for n in 0..grid.count() {
+        let cell = [n % 32, (n + n / 32) % 32, (n + n / 1024) % 32].map(|i| i as i64);
+        sum += forms.overlaps(cell) as usize;
     }
     sum
 }

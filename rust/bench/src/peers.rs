@@ -2,7 +2,7 @@
 
 use crate::frame::{Frame, Grid, Refusal};
 use crate::map::Map;
-use crate::rule::{as_printed, cells_of_box, Block, Point, Setup, Triangle, PLANES};
+use crate::rule::{as_printed, cells_of_box, far_end, Block, Point, Setup, Triangle, PLANES};
 
 /// A fill: the number of filled cells, or the refusal.
 pub type Fill = fn(&[u8], &mut [u8]) -> Result<u32, Refusal>;
@@ -139,195 +139,125 @@ fn walk_columns<const W: usize>(map: &mut Map, setup: &Setup, block: Block) {
 
 pub fn halving(file: &[u8], map: &mut [u8]) -> Result<u32, Refusal> {
     fill_by(file, map, |map, t| {
-        if let Some([x, y, z]) = cells_of_box(t, &map.grid) {
-            let forms = forms(t, &map.grid);
-            let range = |r: std::ops::Range<usize>| Side(r.start, r.end);
-            let sides = [range(x), range(y), range(z)];
-            if whole(&forms, sides) {
-                fill_block(map, &forms, sides[0].0, sides[0].1 - 1, sides[1].0, sides[1].1 - 1, sides[2].0, sides[2].1 - 1);
+        if let Some(block) = cells_of_box(t, &map.grid) {
+            let forms = Setup::in_cells(t, &map.grid);
+            let [x, y, z] = block.map(|cells| Side {
+                low: cells.start as i64,
+                high: cells.end as i64 - 1,
+            });
+            if forms.may_overlap([x.low, y.low, z.low], [x.high, y.high, z.high]) {
+                fill_block(map, &forms, x, y, z);
             }
         }
     })
 }
 
-/// The cells of an axis from the first number on and below the second.
+/// The cells of an axis from `low` to `high`, both included.
 #[derive(Clone, Copy)]
-struct Side(usize, usize);
+struct Side {
+    low: i64,
+    high: i64,
+}
 
 impl Side {
-    fn width(self) -> usize {
-        self.1 - self.0
+    /// The greatest m × q, with q from low to high.
+    #[inline(always)]
+    fn most(self, m: i64) -> i64 {
+        m * far_end(m, self.low, self.high)
     }
-    fn low(self) -> i64 {
-        self.0 as i64
+
+    /// The least.
+    #[inline(always)]
+    fn least(self, m: i64) -> i64 {
+        m * far_end(m, self.high, self.low)
     }
-    fn high(self) -> i64 {
-        self.1 as i64 - 1
+
+    /// The lower and the upper half.
+    #[inline(always)]
+    fn halves(self) -> [Side; 2] {
+        let Side { low, high } = self;
+        let middle = (low + high) >> 1;
+        [
+            Side { low, high: middle },
+            Side {
+                low: middle + 1,
+                high,
+            },
+        ]
     }
 }
 
-/// The forms in cell numbers. For each axis: the normal there, and the three edges in the plane of this axis and the
-/// next; then the plane's two constants.
-type Forms = [i64; 32];
-
-fn forms(t: &Triangle, grid: &Grid) -> Forms {
-    let setup = Setup::new(t, grid.edge);
-    let mut forms = [0; 32];
-    let o = grid.origin;
-    forms[30] = setup.above + (0..3).map(|w| setup.normal[w] * o[w]).sum::<i64>();
-    forms[31] = setup.below + (0..3).map(|w| setup.normal[w] * o[w]).sum::<i64>();
-    for a in 0..3 {
-        forms[10 * a] = setup.normal[a] * grid.edge;
-        let w = (a + 2) % 3;
-        let (u, v) = PLANES[w];
-        for i in 0..3 {
-            let e = setup.edges[w][i];
-            forms[10 * a + 1 + 3 * i] = e.a * grid.edge;
-            forms[10 * a + 2 + 3 * i] = e.b * grid.edge;
-            forms[10 * a + 3 + 3 * i] = e.c + e.a * o[u] + e.b * o[v];
-        }
+/// Fills the cells of a block that no form rules out, where none rules out the block. It is cut
+/// across its longest side.
+fn fill_block(map: &mut Map, forms: &Setup, x: Side, y: Side, z: Side) {
+    let [i, j, k] = [x, y, z].map(|side| side.high - side.low);
+    if i + j + k == 0 {
+        return map.set([x.low as usize, y.low as usize, z.low as usize]);
     }
-    forms
-}
-
-fn whole(f: &Forms, [x, y, z]: [Side; 3]) -> bool {
-    let greatest = f[0] * far_end(f[0], x.low(), x.high()) + f[10] * far_end(f[10], y.low(), y.high()) + f[20] * far_end(f[20], z.low(), z.high()) + f[30];
-    let least = f[0] * far_end(f[0], x.high(), x.low()) + f[10] * far_end(f[10], y.high(), y.low()) + f[20] * far_end(f[20], z.high(), z.low()) + f[31];
-    let three = |i: usize, a: Side, b: Side| (0..3).all(|e| {
-        let (m, n, c) = (f[i + 3 * e], f[i + 3 * e + 1], f[i + 3 * e + 2]);
-        0 <= m * far_end(m, a.low(), a.high()) + n * far_end(n, b.low(), b.high()) + c
-    });
-    least <= 0 && greatest >= 0 && three(1, x, y) && three(11, y, z) && three(21, z, x)
-}
-
-#[derive(Clone, Copy)]
-struct Passing {
-    lower: bool,
-    upper: bool,
-}
-
-fn rule_out(p: Passing, upper: bool) -> Passing {
+    let (lower, upper, halves);
+    if i >= j && i >= k {
+        let [x0, x1] = x.halves();
+        (lower, upper) = halves_may_overlap::<0>(forms, x0.high, y, z);
+        halves = [[x0, y, z], [x1, y, z]];
+    } else if j >= k {
+        let [y0, y1] = y.halves();
+        (lower, upper) = halves_may_overlap::<1>(forms, y0.high, z, x);
+        halves = [[x, y0, z], [x, y1, z]];
+    } else {
+        let [z0, z1] = z.halves();
+        (lower, upper) = halves_may_overlap::<2>(forms, z0.high, x, y);
+        halves = [[x, y, z0], [x, y, z1]];
+    }
+    let [[x0, y0, z0], [x1, y1, z1]] = halves;
+    if lower {
+        fill_block(map, forms, x0, y0, z0);
+    }
     if upper {
-        Passing { lower: p.lower, upper: false }
-    } else {
-        Passing { lower: false, upper: p.upper }
+        fill_block(map, forms, x1, y1, z1);
     }
 }
 
-fn edge_cut(p: Passing, k: i64, l: i64, c: i64, middle: i64, low: i64, high: i64) -> Passing {
-    let at = far_end(k, middle + 1, middle);
-    if k * at + l * far_end(l, low, high) + c < 0 {
-        rule_out(p, k < 0)
-    } else {
-        p
+/// Which halves of a block no form rules out, where none rules out the block. The cut is behind
+/// cell `middle` of axis W; u and v are the block's sides on the two axes that W stands upright on.
+/// Each form is asked of one half only: in the other it is as great as in the block. Kept apart from
+/// its caller, which would else load all forms before it looks at a block.
+#[inline(never)]
+fn halves_may_overlap<const W: usize>(
+    forms: &Setup,
+    middle: i64,
+    u: Side,
+    v: Side,
+) -> (bool, bool) {
+    // the greatest slope × q in the half where that is not as great as in the block
+    let at_cut = |slope: i64| slope * far_end(slope, middle + 1, middle);
+    // 1 for the lower half, 2 for the upper; rule_out says whether neither is left
+    let mut ruled_out = 0;
+    let mut rule_out = |upper: bool| {
+        ruled_out |= if upper { 2 } else { 1 };
+        ruled_out == 3
+    };
+    let n = &forms.normal;
+    let (a, b) = PLANES[W];
+    let greatest = at_cut(n[W]) + u.most(n[a]) + v.most(n[b]) + forms.above;
+    if greatest < 0 {
+        rule_out(n[W] < 0);
     }
-}
-
-fn edges_cut(p: Passing, f: &Forms, m: usize, n: usize, c: usize, middle: i64, low: i64, high: i64) -> Passing {
-    let p = edge_cut(p, f[m], f[n], f[c], middle, low, high);
-    let p = edge_cut(p, f[m + 3], f[n + 3], f[c + 3], middle, low, high);
-    edge_cut(p, f[m + 6], f[n + 6], f[c + 6], middle, low, high)
-}
-
-fn plane_cut(f: &Forms, a: usize, b: usize, c: usize, middle: i64, lb: i64, hb: i64, lc: i64, hc: i64) -> Passing {
-    let (k, m, n) = (f[a], f[b], f[c]);
-    let p = Passing { lower: true, upper: true };
-    let greatest = k * far_end(k, middle + 1, middle) + m * far_end(m, lb, hb) + n * far_end(n, lc, hc) + f[30];
-    let p = if greatest < 0 { rule_out(p, k < 0) } else { p };
-    let least = k * far_end(k, middle, middle + 1) + m * far_end(m, hb, lb) + n * far_end(n, hc, lc) + f[31];
-    if 0 < least { rule_out(p, 0 <= k) } else { p }
-}
-
-fn cut_test(f: &Forms, a: usize, b: usize, c: usize, middle: i64, lb: i64, hb: i64, lc: i64, hc: i64) -> Passing {
-    let p = plane_cut(f, a, b, c, middle, lb, hb, lc, hc);
-    let p = edges_cut(p, f, a + 1, a + 2, a + 3, middle, lb, hb);
-    edges_cut(p, f, c + 2, c + 1, c + 3, middle, lc, hc)
-}
-
-#[derive(Clone, Copy)]
-struct Cut { lower: bool, upper: bool, hx: usize, hy: usize, hz: usize, lx: usize, ly: usize, lz: usize }
-
-fn cut(f: &Forms, lx: usize, hx: usize, ly: usize, hy: usize, lz: usize, hz: usize) -> Cut {
-    let wx = hx - lx;
-    let wy = hy - ly;
-    let wz = hz - lz;
-    if wy <= wx {
-        if wz <= wx {
-            return cut_x(f, lx, hx, ly, hy, lz, hz);
+    let least =
+        n[W] * far_end(n[W], middle, middle + 1) + u.least(n[a]) + v.least(n[b]) + forms.below;
+    if least > 0 && rule_out(n[W] >= 0) {
+        return (false, false);
+    }
+    for e in &forms.edges[b] {
+        if at_cut(e.a) + u.most(e.b) + e.c < 0 && rule_out(e.a < 0) {
+            return (false, false);
         }
-        return cut_z(f, lx, hx, ly, hy, lz, hz);
     }
-    if wz <= wy {
-        return cut_y(f, lx, hx, ly, hy, lz, hz);
+    for e in &forms.edges[a] {
+        if at_cut(e.b) + v.most(e.a) + e.c < 0 && rule_out(e.b < 0) {
+            return (false, false);
+        }
     }
-    cut_z(f, lx, hx, ly, hy, lz, hz)
-}
-
-fn middle(l: usize, h: usize) -> usize {
-    (l + h) / 2
-}
-
-fn cut_x(f: &Forms, lx: usize, hx: usize, ly: usize, hy: usize, lz: usize, hz: usize) -> Cut {
-    let m = middle(lx, hx);
-    let p = cut_test(f, 0, 10, 20, m as i64, ly as i64, hy as i64, lz as i64, hz as i64);
-    Cut { lower: p.lower, upper: p.upper, hx: m, hy, hz, lx: m + 1, ly, lz }
-}
-
-fn cut_y(f: &Forms, lx: usize, hx: usize, ly: usize, hy: usize, lz: usize, hz: usize) -> Cut {
-    let m = middle(ly, hy);
-    let p = cut_test(f, 10, 20, 0, m as i64, lz as i64, hz as i64, lx as i64, hx as i64);
-    Cut { lower: p.lower, upper: p.upper, hx, hy: m, hz, lx, ly: m + 1, lz }
-}
-
-fn cut_z(f: &Forms, lx: usize, hx: usize, ly: usize, hy: usize, lz: usize, hz: usize) -> Cut {
-    let m = middle(lz, hz);
-    let p = cut_test(f, 20, 0, 10, m as i64, lx as i64, hx as i64, ly as i64, hy as i64);
-    Cut { lower: p.lower, upper: p.upper, hx, hy, hz: m, lx, ly, lz: m + 1 }
-}
-
-fn fill_block(map: &mut Map, f: &Forms, lx: usize, hx: usize, ly: usize, hy: usize, lz: usize, hz: usize) {
-    if lx + ly + lz == hx + hy + hz {
-        return map.set([lx, ly, lz]);
-    }
-    let c = cut(f, lx, hx, ly, hy, lz, hz);
-    if c.lower {
-        fill_block(map, f, lx, c.hx, ly, c.hy, lz, c.hz);
-    }
-    if c.upper {
-        fill_block(map, f, c.lx, hx, c.ly, hy, c.lz, hz);
-    }
-}
-
-/// The end of a range at which m × q is greatest.
-#[inline(always)]
-fn far_end(m: i64, low: i64, high: i64) -> i64 {
-    if m < 0 {
-        low
-    } else {
-        high
-    }
-}
-
-/// Is each form's greatest value over the cells with lowest corners from low to high at least 0?
-#[inline(always)]
-pub fn may_overlap(setup: &Setup, low: Point, high: Point) -> bool {
-    let n = &setup.normal;
-    let far = |low: Point, high: Point| -> i64 {
-        (0..3).map(|w| n[w] * far_end(n[w], low[w], high[w])).sum()
-    };
-    let in_plane = |w: usize| {
-        let (u, v) = PLANES[w];
-        setup.edges[w].iter().all(|e| {
-            let u = far_end(e.a, low[u], high[u]);
-            let v = far_end(e.b, low[v], high[v]);
-            e.a * u + e.b * v + e.c >= 0
-        })
-    };
-    far(high, low) + setup.below <= 0
-        && far(low, high) + setup.above >= 0
-        && in_plane(2)
-        && in_plane(0)
-        && in_plane(1)
+    (ruled_out & 1 == 0, ruled_out & 2 == 0)
 }
 
 // ---- every cell of the grid by the rule as printed: no peer, but what the peers are held to

@@ -1,8 +1,8 @@
 //! Route tests: three ways to test a route against a map, and the routes that they are measured on.
 
 use crate::frame::{Frame, Grid, Refusal};
-use crate::peers::{corner, may_overlap, rattle as fill};
-use crate::rule::{as_printed, cells_of_box, Block, Point, Setup};
+use crate::peers::{corner, rattle as fill};
+use crate::rule::{as_printed, cells_of_box, far_end, Block, Point, Setup, Triangle};
 use crate::scenes::{self, Random};
 
 /// What a route test answers: free; or blocked, by a leg at a cell; or the refusal.
@@ -57,7 +57,7 @@ fn test_by(
     file: &[u8],
     map: &[u8],
     numbers: &[i16],
-    search: impl Fn(&Grid, &[u8], &Setup, Block) -> Option<usize>,
+    search: impl Fn(&Grid, &[u8], &Triangle, Block) -> Option<usize>,
 ) -> Answer {
     let grid = match questions(file, map, numbers) {
         Ok(grid) => grid,
@@ -66,8 +66,7 @@ fn test_by(
     for m in 0..numbers.len() / 3 - 1 {
         let [a, b] = [m, m + 1].map(|m| point(&numbers[3 * m..]));
         let leg = [a, b, b];
-        let setup = Setup::new(&leg, grid.edge);
-        let found = cells_of_box(&leg, &grid).and_then(|block| search(&grid, map, &setup, block));
+        let found = cells_of_box(&leg, &grid).and_then(|block| search(&grid, map, &leg, block));
         if let Some(cell) = found {
             return Answer::Blocked {
                 leg: m as u8,
@@ -117,39 +116,56 @@ fn is_filled(map: &[u8], n: usize) -> bool {
     map[n / 8] & (128 >> (n % 8)) != 0
 }
 
-// ---- layers, rows and cells, without the layers and rows that a form rules out: as the library does
+// ---- rows and cells, without the rows that an edge in the plane YZ rules out: as the library does
 
 fn rows(file: &[u8], map: &[u8], numbers: &[i16]) -> Answer {
-    test_by(file, map, numbers, |grid, map, setup, [x, y, z]| {
-        let (last_i, last_j) = (x.end - 1, y.end - 1);
-        let may_touch = |from: [usize; 3], to: [usize; 3]| {
-            let low = corner(grid, from[0], from[1], from[2]);
-            may_overlap(setup, low, corner(grid, to[0], to[1], to[2]))
-        };
+    test_by(file, map, numbers, |grid, map, leg, [x, y, z]| {
+        let forms = Setup::in_cells(leg, grid);
         for k in z {
-            if !may_touch([x.start, y.start, k], [last_i, last_j, k]) {
-                continue;
-            }
-            for j in y.clone() {
-                if !may_touch([x.start, j, k], [last_i, j, k]) {
-                    continue;
-                }
+            // the edges in the plane YZ, as forms of a row of this layer
+            let edges = forms.edges[0].map(|e| (e.a, e.b * k as i64 + e.c));
+            let mut j = next_row(&edges, y.start, y.end);
+            while j < y.end {
                 for i in x.clone() {
                     let n = number(grid, i, j, k);
-                    if is_filled(map, n) && may_touch([i, j, k], [i, j, k]) {
+                    if is_filled(map, n) && forms.overlaps([i as i64, j as i64, k as i64]) {
                         return Some(n);
                     }
                 }
+                j = next_row(&edges, j + 1, y.end);
             }
         }
         None
     })
 }
 
+/// The first row of a layer, from `first` on and below `end`, that no edge rules out, or `end`. Rows
+/// are skipped by blocks: all that are left, then half as many each time that a block is not ruled
+/// out.
+#[inline(always)]
+fn next_row(edges: &[(i64, i64); 3], mut first: usize, end: usize) -> usize {
+    let mut more = 63;
+    while first < end {
+        let last = (first + more).min(end - 1);
+        let may_touch = edges
+            .iter()
+            .all(|(a, rest)| a * far_end(*a, first as i64, last as i64) + rest >= 0);
+        if !may_touch {
+            first = last + 1;
+        } else if more > 0 {
+            more /= 2;
+        } else {
+            break;
+        }
+    }
+    first
+}
+
 // ---- every cell of a leg's box of cells: the overlap test, then the map's bit
 
 fn every_cell(file: &[u8], map: &[u8], numbers: &[i16]) -> Answer {
-    test_by(file, map, numbers, |grid, map, setup, [x, y, z]| {
+    test_by(file, map, numbers, |grid, map, leg, [x, y, z]| {
+        let setup = Setup::new(leg, grid.edge);
         for k in z {
             for j in y.clone() {
                 for i in x.clone() {
