@@ -1,11 +1,14 @@
-//! Fills maps and tests routes by the verified library and by peers written in Rust, to count instructions.
+//! Fills maps and tests routes by the verified library and by peers written in Rust, to count
+//! instructions, to time, and to compare.
 //!
-//!     bench fill PEER SCENE CELLS N    fill the scene's map N times, CELLS cells a side
-//!     bench count SCENE CELLS          print the number of filled cells
-//!     bench test PEER SCENE N          test 32 × 32 × 32 cells for every triangle of the scene N times
-//!     bench route PEER free|blocked N  test the free or the blocked route of 63 legs on the rails N times
-//!     bench stack SCENE CELLS          print the bytes of stack that the verified fill takes
-//!     bench check                      hold every peer to the rule as printed, and to the others
+//!     bench fill PEER SCENE CELLS N       fill the scene's map N times, CELLS cells a side
+//!     bench count SCENE CELLS             print the number of filled cells
+//!     bench test PEER SCENE N             test 32 × 32 × 32 cells for every triangle of the scene N times
+//!     bench route PEER SHAPE ANSWER N     test a route of 63 legs N times: slim or wide, free or blocked
+//!     bench time fill SCENE CELLS         print the microseconds of rattle and of halving
+//!     bench time route SHAPE ANSWER       print the microseconds of rattle, rows, box and cells
+//!     bench stack                         print the greatest stack of a fill, a route test and a reading
+//!     bench check                         hold every peer to the rule as printed, and to the others
 
 mod cells;
 mod frame;
@@ -15,6 +18,7 @@ mod routes;
 mod rule;
 mod scenes;
 mod stack;
+mod time;
 
 use frame::Refusal;
 use peers::{Fill, PEERS};
@@ -103,10 +107,9 @@ fn test_cells(tests: cells::Tests, scene: &str, times: usize) {
     }
 }
 
-/// The route test, of a route on the rails.
-fn test_route(test: routes::Test, which: &str, times: usize) {
-    let scene = routes::Scene::rails();
-    let numbers = routes::route(&scene, which);
+/// The route test, of a route to measure.
+fn test_route(test: routes::Test, shape: &str, answer: &str, times: usize) {
+    let (scene, numbers) = routes::route(shape, answer);
     for _ in 0..times {
         black_box(test(
             &scene.file,
@@ -114,6 +117,54 @@ fn test_route(test: routes::Test, which: &str, times: usize) {
             black_box(&numbers),
         ));
     }
+}
+
+/// The times of the verified fill and of the same recursion in Rust.
+fn time_fill(scene: &str, cells: usize) -> Vec<f64> {
+    let file = scenes::file(scene, cells);
+    time::medians(&mut ["rattle", "halving"].map(|peer| {
+        let (fill, file, mut map) = (named(&PEERS, peer), &file, vec![0; LENT]);
+        move || {
+            black_box(fill(black_box(file), black_box(&mut map)).unwrap());
+        }
+    }))
+}
+
+/// The times of the route tests.
+fn time_route(shape: &str, answer: &str) -> Vec<f64> {
+    let (scene, numbers) = routes::route(shape, answer);
+    time::medians(&mut routes::PEERS.map(|(_, test)| {
+        let (scene, numbers) = (&scene, &numbers);
+        move || {
+            black_box(test(
+                black_box(&scene.file),
+                black_box(&scene.map),
+                black_box(numbers),
+            ));
+        }
+    }))
+}
+
+/// The greatest stack of a fill, over the scenes; of a route test, over the routes; of a reading.
+fn stacks() -> [usize; 3] {
+    let mut map = vec![0; LENT];
+    let fills = scenes::SCENES.map(|scene| stack::fill(&scenes::file(scene, 64), &mut map));
+    let tests = routes::ROUTES.map(|(shape, answer)| {
+        let (scene, numbers) = routes::route(shape, answer);
+        stack::route(&scene.file, &scene.map, &numbers)
+    });
+    let reading = stack::read(&scenes::file("rails", 64));
+    [
+        fills.into_iter().max().unwrap(),
+        tests.into_iter().max().unwrap(),
+        reading,
+    ]
+}
+
+/// Prints numbers in a line.
+fn print(numbers: &[impl std::fmt::Display]) {
+    let words: Vec<String> = numbers.iter().map(ToString::to_string).collect();
+    println!("{}", words.join(" "));
 }
 
 fn main() {
@@ -128,10 +179,9 @@ fn main() {
             let file = scenes::file(scene, cells.parse().unwrap());
             println!("{}", agree(&file, LENT).0.unwrap());
         }
-        ["stack", scene, cells] => {
-            let file = scenes::file(scene, cells.parse().unwrap());
-            println!("{}", stack::depth(&file, &mut vec![0; LENT]));
-        }
+        ["stack"] => print(&stacks()),
+        ["time", "fill", scene, cells] => print(&time_fill(scene, cells.parse().unwrap())),
+        ["time", "route", shape, answer] => print(&time_route(shape, answer)),
         ["fill", peer, scene, cells, times] => {
             let fill = named(&PEERS, peer);
             let file = scenes::file(scene, cells.parse().unwrap());
@@ -143,8 +193,9 @@ fn main() {
         ["test", peer, scene, times] => {
             test_cells(named(&cells::PEERS, peer), scene, times.parse().unwrap());
         }
-        ["route", peer, which, times] => {
-            test_route(named(&routes::PEERS, peer), which, times.parse().unwrap());
+        ["route", peer, shape, answer, times] => {
+            let test = named(&routes::PEERS, peer);
+            test_route(test, shape, answer, times.parse().unwrap());
         }
         _ => panic!("see the first lines of main.rs"),
     }

@@ -1,9 +1,10 @@
-//! Route tests: three ways to test a route against a map, and the routes that they are measured on.
+//! Route tests: four ways to test a route against a map, and the routes that they are measured on.
 
 use crate::frame::{Frame, Grid, Refusal};
 use crate::peers::{corner, rattle as fill};
 use crate::rule::{as_printed, cells_of_box, far_end, Block, Point, Setup, Triangle};
 use crate::scenes::{self, Random};
+use std::collections::HashSet;
 
 /// What a route test answers: free; or blocked, by a leg at a cell; or the refusal.
 #[derive(Clone, Copy, Debug, PartialEq, Eq)]
@@ -17,7 +18,12 @@ pub enum Answer {
 pub type Test = fn(&[u8], &[u8], &[i16]) -> Answer;
 
 /// The peers by name. The first is the verified library.
-pub const PEERS: [(&str, Test); 3] = [("rattle", rattle), ("rows", rows), ("box", every_cell)];
+pub const PEERS: [(&str, Test); 4] = [
+    ("rattle", rattle),
+    ("rows", rows),
+    ("box", whole_box),
+    ("cells", each_cell),
+];
 
 /// The static library's route test.
 fn rattle(file: &[u8], map: &[u8], numbers: &[i16]) -> Answer {
@@ -163,14 +169,36 @@ fn next_row(edges: &[(i64, i64); 3], mut first: usize, end: usize) -> usize {
 
 // ---- every cell of a leg's box of cells: the overlap test, then the map's bit
 
-fn every_cell(file: &[u8], map: &[u8], numbers: &[i16]) -> Answer {
+/// The plain three loops. The compiler moves the edges in the plane YZ out of the innermost, so that
+/// the rows that these rule out are skipped here too.
+fn whole_box(file: &[u8], map: &[u8], numbers: &[i16]) -> Answer {
+    scan_by(file, map, numbers, Setup::overlaps)
+}
+
+/// The same with a test of its own for every cell.
+fn each_cell(file: &[u8], map: &[u8], numbers: &[i16]) -> Answer {
+    #[inline(never)]
+    fn overlaps(setup: &Setup, p: Point) -> bool {
+        setup.overlaps(p)
+    }
+    scan_by(file, map, numbers, overlaps)
+}
+
+/// The scan of the whole box, by a test of the cell with a lowest corner.
+#[inline(always)]
+fn scan_by(
+    file: &[u8],
+    map: &[u8],
+    numbers: &[i16],
+    overlaps: impl Fn(&Setup, Point) -> bool,
+) -> Answer {
     test_by(file, map, numbers, |grid, map, leg, [x, y, z]| {
         let setup = Setup::new(leg, grid.edge);
         for k in z {
             for j in y.clone() {
                 for i in x.clone() {
                     let n = number(grid, i, j, k);
-                    if setup.overlaps(corner(grid, i, j, k)) && is_filled(map, n) {
+                    if overlaps(&setup, corner(grid, i, j, k)) && is_filled(map, n) {
                         return Some(n);
                     }
                 }
@@ -200,9 +228,9 @@ impl Scene {
         Some(Scene { file, map })
     }
 
-    /// The 200 rails, in 64 × 64 × 64 cells.
-    pub fn rails() -> Scene {
-        Scene::new(scenes::file("rails", 64)).unwrap()
+    /// The 200 rails of a scene, in 64 × 64 × 64 cells.
+    fn rails(scene: &str) -> Scene {
+        Scene::new(scenes::file(scene, 64)).unwrap()
     }
 
     /// What Rust says of one leg.
@@ -244,23 +272,64 @@ fn farthest(random: &mut Random, scene: &Scene, from: Point, free: bool) -> Opti
     proposed.find(|to| (scene.leg(from, *to) == Answer::Free) == free)
 }
 
-/// A free route on the rails; or one that is blocked by its last leg alone.
-pub fn route(scene: &Scene, which: &str) -> Vec<i16> {
-    let mut random = Random(3);
+/// Points whose legs are free among rails that lie anywhere. Their boxes of cells are slim.
+fn slim(random: &mut Random, scene: &Scene, count: usize) -> Vec<Point> {
     let grid = scenes::grid(64);
     let mut points = vec![];
     while points.is_empty() {
-        let p = any_point(&mut random, &grid);
+        let p = any_point(random, &grid);
         if scene.leg(p, p) == Answer::Free {
             points.push(p);
         }
     }
-    while points.len() < POINTS {
-        let free = which == "free" || points.len() + 1 < POINTS;
+    while points.len() < count {
         let from = points[points.len() - 1];
-        points.extend(farthest(&mut random, scene, from, free));
+        points.extend(farthest(random, scene, from, true));
     }
-    numbers(&points)
+    points
+}
+
+/// Points whose legs go from corner to corner of the middle half, where no rail is. Their boxes of
+/// cells have 32 × 64 × 64 cells.
+fn wide(random: &mut Random, count: usize) -> Vec<Point> {
+    (0..count)
+        .map(|m| scenes::near_corner(random, m % 2 == 1))
+        .collect()
+}
+
+/// The routes to measure: the shape of the legs' boxes, and the answer.
+pub const ROUTES: [(&str, &str); 4] = [
+    ("slim", "free"),
+    ("slim", "blocked"),
+    ("wide", "free"),
+    ("wide", "blocked"),
+];
+
+/// A route of 63 legs with its scene. It is free; or blocked, by its last leg alone.
+pub fn route(shape: &str, answer: &str) -> (Scene, Vec<i16>) {
+    let mut random = Random(3);
+    let free = match answer {
+        "free" => POINTS,
+        "blocked" => POINTS - 1,
+        _ => panic!("no answer {answer}"),
+    };
+    let (scene, mut points);
+    match shape {
+        "slim" => {
+            scene = Scene::rails("rails");
+            points = slim(&mut random, &scene, free);
+        }
+        "wide" => {
+            scene = Scene::rails("sides");
+            points = wide(&mut random, free);
+        }
+        _ => panic!("no shape {shape}"),
+    }
+    while points.len() < POINTS {
+        let from = points[points.len() - 1];
+        points.extend(farthest(&mut random, &scene, from, false));
+    }
+    (scene, numbers(&points))
 }
 
 // ---- the check
@@ -311,16 +380,31 @@ fn any_route(random: &mut Random, grid: &Grid) -> Vec<i16> {
     numbers
 }
 
+/// Holds the peers to each other on the routes to measure, which are as said.
+fn check_measured() {
+    let grid = scenes::grid(64);
+    for (shape, answer) in ROUTES {
+        let (scene, numbers) = route(shape, answer);
+        match scene.agree(&numbers) {
+            Answer::Free => assert!(answer == "free", "{shape} {answer}"),
+            Answer::Blocked { leg: 62, .. } => assert!(answer == "blocked", "{shape} {answer}"),
+            other => panic!("{shape} {answer}: {other:?}"),
+        }
+        if (shape, answer) == ("wide", "free") {
+            let legs: HashSet<&[i16]> = numbers.windows(6).step_by(3).collect();
+            assert!(legs.len() == POINTS - 1, "two legs are alike");
+            for leg in legs {
+                let [a, b] = [point(leg), point(&leg[3..])];
+                assert!(cells_of_box(&[a, b, b], &grid) == Some([16..48, 0..64, 0..64]));
+            }
+        }
+    }
+}
+
 /// Holds the peers to each other and, on small grids, to the rule as printed.
 pub fn check() {
-    let rails = Scene::rails();
-    let free = rails.agree(&route(&rails, "free"));
-    let blocked = rails.agree(&route(&rails, "blocked"));
-    assert!(free == Answer::Free, "{free:?}");
-    assert!(
-        matches!(blocked, Answer::Blocked { leg: 62, .. }),
-        "{blocked:?}"
-    );
+    check_measured();
+    let rails = Scene::rails("rails");
     let mut random = Random(4);
     let mut counts = [0; 3];
     let mut count = |answer: Answer| match answer {
@@ -341,5 +425,5 @@ pub fn check() {
         count(answer);
     }
     let [free, blocked, refused] = counts;
-    println!("{free} free, {blocked} blocked and {refused} refused routes: all alike");
+    println!("4 measured, {free} free, {blocked} blocked and {refused} refused routes: all alike");
 }

@@ -34,6 +34,8 @@ pub fn moved(p: Point, by: Point) -> Point {
 /// The grids' extent: the same cube of 3.2 m for each size.
 const LOW: i64 = -1600;
 const HIGH: i64 = 1600;
+/// How far the ends of the rails at the sides stand from the middle half: more than they are wide.
+const CLEAR: i64 = 21;
 
 /// The grid with so many cells a side.
 pub fn grid(cells: usize) -> Grid {
@@ -44,6 +46,7 @@ pub fn grid(cells: usize) -> Grid {
     }
 }
 
+/// The scenes to fill. The rails at the sides are for routes.
 pub const SCENES: [&str; 4] = ["rails", "plates", "small", "diagonal"];
 
 /// The triangles of a scene.
@@ -56,6 +59,20 @@ pub fn triangles(scene: &str) -> Vec<Triangle> {
                 let mut from = random.point(LOW, HIGH);
                 let mut to = random.point(LOW, HIGH);
                 (from[i % 3], to[i % 3]) = (LOW, HIGH);
+                [from, to, moved(to, random.point(-20, 20))]
+            })
+            .collect(),
+        // long and thin, in the two outer quarters on x alone, from side to side on y or z
+        "sides" => (0..200)
+            .map(|i| {
+                let mut end = || {
+                    let [_, y, z] = random.point(LOW, HIGH);
+                    let x = random.between(LOW, LOW / 2 - CLEAR);
+                    [if i % 2 == 0 { x } else { -x }, y, z]
+                };
+                let (mut from, mut to) = (end(), end());
+                let w = 1 + i / 2 % 2;
+                (from[w], to[w]) = (LOW, HIGH);
                 [from, to, moved(to, random.point(-20, 20))]
             })
             .collect(),
@@ -74,6 +91,20 @@ pub fn triangles(scene: &str) -> Vec<Triangle> {
         "diagonal" => vec![[[HIGH, LOW, LOW], [LOW, HIGH, LOW], [LOW, LOW, HIGH]]],
         _ => panic!("no scene {scene}"),
     }
+}
+
+/// Some point of a corner cell of the grid's middle half on x, 64 cells a side: of the lowest of its
+/// cells on all axes, or the highest. It touches no cell outside that half.
+pub fn near_corner(random: &mut Random, high: bool) -> Point {
+    let edge = grid(64).edge;
+    [HIGH / 2 - 1, HIGH, HIGH].map(|far| {
+        let x = random.between(far - edge + 1, far);
+        if high {
+            x
+        } else {
+            -x
+        }
+    })
 }
 
 /// The file of a scene for the grid with so many cells a side.

@@ -1,34 +1,80 @@
-//! How much stack the verified fill takes: it runs on painted bytes, and the paint that is left is
-//! counted. For x86-64.
+//! How much stack the library's calls take: a call runs on painted bytes, and the paint that is left
+//! is counted. For x86-64.
 
 use std::arch::asm;
 
+#[rustfmt::skip]
+extern "C" {
+    fn stall_fill(file: *const u8, file_len: usize, map: *mut u8, map_len: usize) -> u64;
+    fn stall_route(
+        file: *const u8, file_len: usize, map: *const u8, map_len: usize,
+        numbers: *const i16, numbers_len: usize,
+    ) -> u64;
+    fn stall_read(
+        file: *const u8, file_len: usize, record: usize, out: *mut i32, out_len: usize,
+    ) -> u64;
+}
+
 const PAINT: u8 = 0xa5;
 
-/// The bytes of stack that a fill has written to, down to the lowest.
-pub fn depth(file: &[u8], map: &mut [u8]) -> usize {
-    extern "C" {
-        fn stall_fill(file: *const u8, file_len: usize, map: *mut u8, map_len: usize) -> u64;
-    }
+/// The bytes of stack that a call has written to, down to the lowest.
+///
+/// # Safety
+/// The function keeps to the C convention and may be called with these arguments: whole numbers and
+/// addresses. It may take fewer.
+unsafe fn depth(function: *const (), arguments: [usize; 6]) -> usize {
     let mut stack = vec![PAINT; 1 << 20];
     let top = stack.as_mut_ptr_range().end as usize & !15;
-    // SAFETY: the call keeps to the C convention on a stack of its own, and r12 outlives it.
-    unsafe {
-        asm!(
-            "mov r12, rsp",
-            "mov rsp, {top}",
-            "call {fill}",
-            "mov rsp, r12",
-            top = in(reg) top,
-            fill = sym stall_fill,
-            in("rdi") file.as_ptr(),
-            in("rsi") file.len(),
-            in("rdx") map.as_mut_ptr(),
-            in("rcx") map.len(),
-            out("r12") _,
-            clobber_abi("C"),
-        );
-    }
+    let [a, b, c, d, e, f] = arguments;
+    // the call runs on a stack of its own, and r12 outlives it
+    asm!(
+        "mov r12, rsp",
+        "mov rsp, r13",
+        "call rax",
+        "mov rsp, r12",
+        in("rax") function,
+        in("r13") top,
+        in("rdi") a, in("rsi") b, in("rdx") c, in("rcx") d, in("r8") e, in("r9") f,
+        out("r12") _,
+        clobber_abi("C"),
+    );
     let left = stack.iter().take_while(|byte| **byte == PAINT).count();
     top - (stack.as_ptr() as usize + left)
+}
+
+/// The stack of a fill.
+pub fn fill(file: &[u8], map: &mut [u8]) -> usize {
+    let (file, file_len) = (file.as_ptr() as usize, file.len());
+    let (map, map_len) = (map.as_mut_ptr() as usize, map.len());
+    // SAFETY: the slices outlive the call, and the library keeps neither.
+    unsafe {
+        depth(
+            stall_fill as *const (),
+            [file, file_len, map, map_len, 0, 0],
+        )
+    }
+}
+
+/// The stack of a route test.
+pub fn route(file: &[u8], map: &[u8], numbers: &[i16]) -> usize {
+    let (file, file_len) = (file.as_ptr() as usize, file.len());
+    let (map, map_len) = (map.as_ptr() as usize, map.len());
+    let (numbers, numbers_len) = (numbers.as_ptr() as usize, numbers.len());
+    let arguments = [file, file_len, map, map_len, numbers, numbers_len];
+    // SAFETY: the slices outlive the call, and the library keeps none.
+    unsafe { depth(stall_route as *const (), arguments) }
+}
+
+/// The stack of a reading of record 0.
+pub fn read(file: &[u8]) -> usize {
+    let mut out = [0i32; 19];
+    let (file, file_len) = (file.as_ptr() as usize, file.len());
+    let out_at = out.as_mut_ptr() as usize;
+    // SAFETY: the slices outlive the call, and the library keeps neither.
+    unsafe {
+        depth(
+            stall_read as *const (),
+            [file, file_len, 0, out_at, out.len(), 0],
+        )
+    }
 }
