@@ -266,8 +266,8 @@ fn cut_x(
     let m = middle(lx, hx);
     let passing = overlap::cut_test(forms, 0, 10, 20, m, ly, hy, lz, hz);
     Halves {
-        lower: passing.lower,
-        upper: passing.upper,
+        lower: passing % 2 == 1,
+        upper: 2 <= passing,
         hx: m,
         hy,
         hz,
@@ -293,8 +293,8 @@ fn cut_y(
     let m = middle(ly, hy);
     let passing = overlap::cut_test(forms, 10, 20, 0, m, lz, hz, lx, hx);
     Halves {
-        lower: passing.lower,
-        upper: passing.upper,
+        lower: passing % 2 == 1,
+        upper: 2 <= passing,
         hx,
         hy: m,
         hz,
@@ -320,8 +320,8 @@ fn cut_z(
     let m = middle(lz, hz);
     let passing = overlap::cut_test(forms, 20, 0, 10, m, lx, hx, ly, hy);
     Halves {
-        lower: passing.lower,
-        upper: passing.upper,
+        lower: passing % 2 == 1,
+        upper: 2 <= passing,
         hx,
         hy,
         hz: m,

@@ -2,12 +2,13 @@
 --     one-shl        1 shifted inside a byte is a power of 2
 --     filled-with    of the map with cell n filled, every cell
 --     length-with    the map is as long as it was
+--     empty-cell     a cell of a byte with no filled cell
 -- Assumes nothing.
-use mathlib.Core.Bool.{true, _||_}
+use mathlib.Core.Bool.{true, false, _||_}
 use mathlib.Core.List.{List}
 use mathlib.Core.Path.{_≡_, refl}
-use Prim.Native.Nat.{ℕ, zero, suc, _+_, _-_, _*_, _/_, _%_, _^_, _<_}
-use native.Mathlib.Nat.{div-self, div-eq-of-lt, mod-lt, one-mul}
+use Prim.Native.Nat.{ℕ, zero, suc, _+_, _-_, _*_, _/_, _%_, _^_, _<_, _≤_}
+use native.Mathlib.Nat.{div-self, div-eq-of-lt, mod-lt, one-mul, zero-div}
 use native.Mathlib.Decide.{ℕ-discrete, decLt}
 use native.Mathlib.Omega.{arith}
 use borrow.Author.Tests.{eq-eqb, ne-eqb}
@@ -67,3 +68,10 @@ module _ (s : List ℕ) (n : ℕ) (room : n < 8 * length s) where
 pub length-with : (s : List ℕ) (n : ℕ) → length (withFilled s n) ≡ length s
 unfolding withFilled
 length-with s n = length-set s (n / 8) (bitOr (getD s (n / 8) 0) (2 ^ (7 - n % 8)))
+
+-- The cells of a byte with no filled cell.
+pub empty-cell : (s : List ℕ) (m n : ℕ) → getD s (m / 8) 0 ≡ 0 → m ≤ n → n < m / 8 * 8 + 8 → isFilled s n ≡ false
+unfolding isFilled
+empty-cell s m n e l u =
+    let same : n / 8 ≡ m / 8 = omega arith in
+    rw (same, e, zero-div (2 ^ (7 - n % 8)))

@@ -1,7 +1,8 @@
 -- The map (occupancy grid): one bit a cell. Definitions only.
 use mathlib.Core.Bool.{Bool, true, false, _&&_}
 use mathlib.Core.List.{List, [], _∷_, _++_}
-use Prim.Native.Nat.{ℕ, zero, suc, _+_, _-_, _*_, _/_, _%_, _^_}
+use mathlib.Core.Path.{_≡_}
+use Prim.Native.Nat.{ℕ, zero, suc, _+_, _-_, _*_, _/_, _%_, _^_, _<_, _≤_}
 use lib.Bits.{bitOr}
 use lib.Dec.{eqb, ltb}
 use lib.ListN.{getD, set}
@@ -13,6 +14,13 @@ mapLength cells = (cells + 7) / 8
 -- Cell n is bit 7 − (n mod 8) of byte n ÷ 8, bit 7 being the highest. Past the end of the bytes no cell is filled.
 unfoldable pub isFilled : List ℕ → ℕ → Bool
 isFilled s n = eqb (getD s (n / 8) 0 / 2 ^ (7 - n % 8) % 2) 1
+
+-- r is the first filled cell from `first` on and below `end`, or `end`.
+pub record NextFilled (s : List ℕ) (first end r : ℕ) : Type 0 where
+  pub from : first ≤ r
+  pub to : r ≤ end
+  pub skipped : (n : ℕ) → n < r → first ≤ n → isFilled s n ≡ false
+  pub stopped : r < end → isFilled s r ≡ true
 
 -- The bytes with cell n filled, and every other cell as it was.
 unfoldable pub withFilled : List ℕ → ℕ → List ℕ

@@ -4,7 +4,7 @@ ghost use mathlib.Core.List.{_++_};
 ghost use Prim.Native.Nat.{_+_, _*_, _/_, _<_, _≤_, _^_};
 ghost use lib.ListN.{length, drop, replicate};
 ghost use Rattle.grid.specs.Cells.{cellNumber};
-ghost use Rattle.grid.specs.Map.{mapLength, isFilled, withFilled, countBelow};
+ghost use Rattle.grid.specs.Map.{mapLength, isFilled, NextFilled, withFilled, countBelow};
 
 // The number of cell (i, j, k) in a grid with nx × ny cells in a layer.
 pub fn cell_number(nx: usize, ny: usize, i: usize, j: usize, k: usize) -> usize
@@ -30,6 +30,37 @@ pub fn is_filled(map: &[u8], n: usize) -> bool
 {
     let byte = map[n / 8];
     (byte >> (7 - n % 8)) % 2 == 1
+}
+
+// The first filled cell from `first` on and below `end`, or `end`. Bytes with no filled cell are passed over.
+pub fn next_filled(map: &[u8], first: usize, end: usize) -> usize
+    requires { ⌜ (first ≤ end) × (end ≤ 8 * length (now map)) ⌝ }
+    ensures { λ r. ⌜ NextFilled (now (map .entry)) first end r ⌝ }
+{
+    let mut n = first;
+    while n < end {
+        if map[n / 8] == 0 {
+            n = byte_end(n, end);
+        } else {
+            if is_filled(map, n) {
+                return n;
+            }
+            n += 1;
+        }
+    }
+    n
+}
+
+// The first cell behind the byte of cell n, or `end`.
+pub fn byte_end(n: usize, end: usize) -> usize
+    requires { ⌜ n < end ⌝ }
+    ensures { λ r. ⌜ (n < r) × (r ≤ end) × (r ≤ n / 8 * 8 + 8) ⌝ }
+{
+    let first = n / 8 * 8;
+    if end - first < 8 {
+        return end;
+    }
+    first + 8
 }
 
 // Fills cell n.

@@ -8,11 +8,11 @@
 use mathlib.Core.Bool.{false}
 use mathlib.Core.List.{List, [], _++_}
 use mathlib.Core.Path.{_≡_, refl, sym, ap, _∙_}
-use Prim.Native.Nat.{ℕ, suc, _+_, _-_, _*_, _/_, _%_, _^_, _<_, _≤_}
-use native.Mathlib.Nat.{zero-div}
+use Prim.Native.Nat.{ℕ, suc, _+_, _-_, _*_, _/_, _<_, _≤_}
 use native.Mathlib.Omega.{arith}
 use lib.ListN.{length, getD, length-append}
 use Rattle.grid.specs.Map.{isFilled}
+use Rattle.grid.proofs.Filled.{empty-cell}
 use Rattle.listing.specs.Text.{placed, Puts}
 use Rattle.listing.specs.Listing.{cellLine, linesFrom, lineMost, stopAt, Advances}
 use Rattle.listing.proofs.Texts.{placed-none, placed-more, length-placed}
@@ -76,13 +76,8 @@ module _ (line : ℕ → List ℕ) (count : ℕ) where
         stop = ap (λ (k : ℕ). stopAt line (k - end) next (count - next)) (sym long) ∙ q .stop ∙ ap (λ (k : ℕ). stopAt line (k - behind) mid (count - mid)) long ∙ p .stop;
       }
 
-empty-cell : (m : List ℕ) (n : ℕ) → getD m (n / 8) 0 ≡ 0 → isFilled m n ≡ false
-unfolding isFilled
-empty-cell m n e = rw (e, zero-div (2 ^ (7 - n % 8)))
-
 pub empty-byte : (m : List ℕ) (nx ny cell next : ℕ) → getD m (cell / 8) 0 ≡ 0 → next ≤ cell / 8 * 8 + 8
     → (n : ℕ) → cell ≤ n → n < next → cellLine (isFilled m) nx ny n ≡ []
 unfolding cellLine
 empty-byte m nx ny cell next zero end n l u =
-    let same : n / 8 ≡ cell / 8 = omega arith in
-    rw (empty-cell m n (ap (λ (q : ℕ). getD m q 0) same ∙ zero))
+    rw (empty-cell m cell n zero l (omega (arith, u, end)))

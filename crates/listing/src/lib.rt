@@ -146,7 +146,7 @@ fn put_next(
 {
     if map[cell / 8] == 0 {
         return Place {
-            cell: byte_end(cell, all),
+            cell: grid::byte_end(cell, all),
             at,
         };
     }
@@ -155,18 +155,6 @@ fn put_next(
         cell: cell + 1,
         at: behind,
     }
-}
-
-// The first cell behind the byte of a cell, or the end of all cells.
-fn byte_end(cell: usize, all: usize) -> usize
-    requires { ⌜ cell < all ⌝ }
-    ensures { λ r. ⌜ (cell < r) × (r ≤ all) × (r ≤ cell / 8 * 8 + 8) ⌝ }
-{
-    let first = cell / 8 * 8;
-    if all - first < 8 {
-        return all;
-    }
-    first + 8
 }
 
 // Puts the line of a cell, if it is filled, and answers the place behind it.

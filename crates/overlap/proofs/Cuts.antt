@@ -3,6 +3,7 @@
 use mathlib.Core.Path.{_≡_, refl, sym, ap, ap₂, _∙_}
 use mathlib.Core.Bool.{Bool, true, false, not, cond, _&&_, _||_, and-eq-true-iff, and-true, and-assoc, and-comm}
 use mathlib.Core.List.{[], _∷_}
+use Prim.Native.Nat.{ℕ}
 use lib.IntN.{ℤ, pos, _+ℤ_, _*ℤ_}
 use lib.Signed.{leZ, ltZ}
 use Rattle.integers.proofs.Expr.{var, _⊕_}
@@ -10,12 +11,11 @@ use Rattle.integers.proofs.Ring.{ring}
 use Rattle.overlap.specs.declared.PlaneForms.{PlaneForms}
 use Rattle.overlap.specs.declared.EdgeForm.{EdgeForm}
 use Rattle.overlap.specs.declared.EdgeForms.{EdgeForms}
-use Rattle.overlap.specs.declared.Passing.{Passing}
 use Rattle.overlap.specs.declared.Setup.{Setup}
 use Rattle.overlap.specs.Geometry.{Point, point}
 use Rattle.overlap.specs.Bounds.{BoundedSetup}
 use Rattle.overlap.specs.Block.{farEnd, farValue, planeTest, edgeTest, edgesTest, blockTest}
-use Rattle.overlap.specs.Cut.{edgeHalf, edgesHalf, planeHalf, flipEdge, flipEdges, CutPasses}
+use Rattle.overlap.specs.Cut.{edgeHalf, edgesHalf, planeHalf, flipEdge, flipEdges, lowerPasses, upperPasses, CutPasses}
 
 -- ---- one form
 -- A form that holds over the range from l to h, as a test of the end where it is greatest: the first end where t holds, else the second. The range is cut
@@ -111,8 +111,8 @@ module _ (f : Setup) (low high : Point) (m : ℤ) where
   kept : yz low high ≡ true → (a b : Bool) → (a && b) ≡ (a && yz low high && b)
   kept e a b = ap (λ (y : Bool). y && b) (sym (and-true a) ∙ ap (λ (y : Bool). a && y) (sym e))
 
-  pub cut-x : blockTest f low high ≡ true → {r : Passing} → CutPasses f m (low .y) (high .y) (low .z) (high .z) r
-      → (r .lower ≡ blockTest f low low-end) × (r .upper ≡ blockTest f high-end high)
+  pub cut-x : blockTest f low high ≡ true → {r : ℕ} → CutPasses f m (low .y) (high .y) (low .z) (high .z) r
+      → (lowerPasses r ≡ blockTest f low low-end) × (upperPasses r ≡ blockTest f high-end high)
   unfolding blockTest
   cut-x e c =
       let plane : (low high : Point) → Bool = planeTest (f .plane) in
@@ -183,15 +183,15 @@ turn-test f low high =
     && edgesTest (f .zx) (low .z) (high .z) (low .x) (high .x))
     (turn-plane (f .plane) low high)
 
-pub cut-y : (f : Setup) (low high : Point) (m : ℤ) → blockTest f low high ≡ true → {r : Passing} → CutPasses (turnSetup f) m (low .z) (high .z) (low .x) (high .x) r
-    → (r .lower ≡ blockTest f low (point (high .x) m (high .z))) × (r .upper ≡ blockTest f (point (low .x) (m +ℤ pos 1) (low .z)) high)
+pub cut-y : (f : Setup) (low high : Point) (m : ℤ) → blockTest f low high ≡ true → {r : ℕ} → CutPasses (turnSetup f) m (low .z) (high .z) (low .x) (high .x) r
+    → (lowerPasses r ≡ blockTest f low (point (high .x) m (high .z))) × (upperPasses r ≡ blockTest f (point (low .x) (m +ℤ pos 1) (low .z)) high)
 cut-y f low high m e c =
     let h = cut-x (turnSetup f) (turnPoint low) (turnPoint high) m (turn-test f low high ∙ e) c in
     (h .0 ∙ turn-test f low (point (high .x) m (high .z)), h .1 ∙ turn-test f (point (low .x) (m +ℤ pos 1) (low .z)) high)
 
-pub cut-z : (f : Setup) (low high : Point) (m : ℤ) → blockTest f low high ≡ true → {r : Passing}
+pub cut-z : (f : Setup) (low high : Point) (m : ℤ) → blockTest f low high ≡ true → {r : ℕ}
     → CutPasses (turnSetup (turnSetup f)) m (low .x) (high .x) (low .y) (high .y) r
-    → (r .lower ≡ blockTest f low (point (high .x) (high .y) m)) × (r .upper ≡ blockTest f (point (low .x) (low .y) (m +ℤ pos 1)) high)
+    → (lowerPasses r ≡ blockTest f low (point (high .x) (high .y) m)) × (upperPasses r ≡ blockTest f (point (low .x) (low .y) (m +ℤ pos 1)) high)
 cut-z f low high m e c =
     let h = cut-y (turnSetup f) (turnPoint low) (turnPoint high) m (turn-test f low high ∙ e) c in
     (h .0 ∙ turn-test f low (point (high .x) (high .y) m), h .1 ∙ turn-test f (point (low .x) (low .y) (m +ℤ pos 1)) high)

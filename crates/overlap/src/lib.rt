@@ -59,12 +59,6 @@ pub struct Setup {
     pub zx: EdgeForms,
 }
 
-// Which halves of a block no form rules out.
-pub struct Passing {
-    pub lower: bool,
-    pub upper: bool,
-}
-
 // The cells of an axis from `first` on and below `end`.
 pub struct CellRange {
     pub first: usize,
@@ -630,7 +624,8 @@ fn ruled_out(
     if upper { 1 } else { 3 }
 }
 
-// The edges' tests of the halves that the plane passes. Of two halves one is soon ruled out, or all edges hold.
+// The edges' tests of the halves that the plane passes: 1 for the lower half and 2 for the upper, added. Of two halves
+// one is soon ruled out, or all edges hold.
 fn halves_pass(
     lower: bool,
     upper: bool,
@@ -642,40 +637,27 @@ fn halves_pass(
     hb: i64,
     lc: i64,
     hc: i64,
-) -> Passing
+) -> usize
     requires { ⌜ CutForms (now forms) a c × Withins (cutBounds 4) (middle ∷ lb ∷ hb ∷ lc ∷ hc ∷ []) ⌝ }
     ensures { λ r. ⌜ EdgesPass lower upper (λ u. cutEdges u (now (forms .entry)) a c middle lb hb lc hc) r ⌝ }
 {
     let ruled = ruled_out(lower, upper, forms, a, c, middle, lb, hb, lc, hc);
     if ruled == 0 {
-        return Passing {
-            lower: true,
-            upper: true,
-        };
+        return 3;
     }
     if ruled == 3 {
-        return Passing {
-            lower: false,
-            upper: false,
-        };
+        return 0;
     }
-    let passes = half_passes(forms, a, c, ruled == 1, middle, lb, hb, lc, hc);
-    if ruled == 1 {
-        Passing {
-            lower: false,
-            upper: passes,
-        }
+    if half_passes(forms, a, c, ruled == 1, middle, lb, hb, lc, hc) {
+        3 - ruled
     } else {
-        Passing {
-            lower: passes,
-            upper: false,
-        }
+        0
     }
 }
 
 // Which halves of a block may overlap the triangle, where the whole block may. The cut is behind cell `middle` of the
 // first axis. The axes' numbers start at a, b and c, each in the order x, y, z, x; so the cut is across x, y or z for
-// 0, 10, 20; 10, 20, 0; or 20, 0, 10.
+// 0, 10, 20; 10, 20, 0; or 20, 0, 10. The answer is 1 for the lower half and 2 for the upper, added.
 pub fn cut_test(
     forms: &[i64; 34],
     a: usize,
@@ -686,7 +668,7 @@ pub fn cut_test(
     hb: usize,
     lc: usize,
     hc: usize,
-) -> Passing
+) -> usize
     requires { ⌜ (a < 23) × (b < 23) × (c < 23) × BoundedSetup (setupFrom (now forms) a b c) × (middle < 64) × Indices (lb ∷ hb ∷ lc ∷ hc ∷ []) ⌝ }
     ensures { λ r. ⌜ CutPasses (setupFrom (now (forms .entry)) a b c) (pos middle) (pos lb) (pos hb) (pos lc) (pos hc) r ⌝ }
 {

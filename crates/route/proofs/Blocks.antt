@@ -65,7 +65,7 @@ row-out f k {l} {h} {j} low high never = go (rowMay f j k) refl
 
 module _ (s : List ℕ) (nx ny : ℕ) (f : Setup) (x y z : CellRange) where
   -- Cell (i, j, k) of the block is none that is looked for.
-  abbrev No : (i j k : ℕ) → Type 0
+  abbrev pub No : (i j k : ℕ) → Type 0
   No i j k = In x i → In y j → In z k → isFilled s (cellNumber nx ny i j k) ≡ true → cellTest f i j k ≡ true → ⊥
 
   abbrev pub Layers : ℕ → Type 0

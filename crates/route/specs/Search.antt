@@ -2,7 +2,7 @@
 use mathlib.Core.Bool.{Bool, true, false}
 use mathlib.Core.List.{List, _∷_}
 use mathlib.Core.Path.{_≡_}
-use Prim.Native.Nat.{ℕ, _^_, _<_, _≤_}
+use Prim.Native.Nat.{ℕ, _+_, _^_, _<_, _≤_}
 use lib.Dec.{leb}
 use lib.IntN.{ℤ, pos}
 use lib.Signed.{_<ℤ_}
@@ -52,10 +52,18 @@ lastQuestions h len ns = (leb (mapLength (cellCount h)) len otherwise ShortMap) 
 
 -- ---- a block of cells to search
 pub record InGrid (h : Header) (b : BoxRange) : Type 0 where
+  pub x-from : b .x .first ≤ b .x .end
   pub y-from : b .y .first ≤ b .y .end
   pub x : b .x .end ≤ h .cells .x
   pub y : b .y .end ≤ h .cells .y
   pub z : b .z .end ≤ h .cells .z
+
+-- r is the first filled cell of a row, from `first` on and below `end`; or `end`. The row's cells are numbered from `row`.
+pub record NextCell (map : List ℕ) (row first end r : ℕ) : Type 0 where
+  pub from : first ≤ r
+  pub to : r ≤ end
+  pub skipped : (i : ℕ) → i < r → first ≤ i → isFilled map (row + i) ≡ false
+  pub stopped : r < end → isFilled map (row + r) ≡ true
 
 -- Row j of layer k, by the forms in the plane YZ alone, which do not see where along the row a cell is.
 abbrev pub rowMay : Setup → (j k : ℕ) → Bool

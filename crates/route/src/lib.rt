@@ -20,7 +20,7 @@ ghost use Rattle.grid.specs.Map.{mapLength, isFilled};
 ghost use Rattle.fill.specs.Steel.{gridAt, cellCount};
 ghost use Rattle.route.specs.Route.{pointCount, pointsOf, pointAt, firstTouched, tested, insideOn, inside, pointQuestion, answerOf, routeAnswer};
 ghost use Rattle.route.specs.Demand.{DemandOf};
-ghost use Rattle.route.specs.Search.{originMax, edgeMax, Ready, ReadyRoute, lastQuestions, InGrid, NextRow, Finds};
+ghost use Rattle.route.specs.Search.{originMax, edgeMax, Ready, ReadyRoute, lastQuestions, InGrid, NextCell, NextRow, Finds};
 
 // What a route test answers: the route is free; or blocked, by the first leg that touches a filled cell, at
 // the lowest such cell; or the first limit broken.
@@ -183,7 +183,7 @@ fn first_touched(header: Header, map: &[u8], a: Vector, b: Vector) -> Found
 }
 
 // The lowest filled cell of the block that no form rules out: by layers, rows and cells. Rows that a form rules out are
-// skipped, and so whole layers of them; a cell's bit is looked at before its forms.
+// skipped, and so whole layers of them; in a row, cells that are not filled are skipped before their forms are asked.
 fn search(header: Header, map: &[u8], forms: &[i64; 34], block: BoxRange) -> Found
     requires { ⌜ Ready header × (mapLength (cellCount header) ≤ length (now map)) × BoundedSetup (setupAt (now forms)) × InGrid header block ⌝ }
     ensures { λ r. ⌜ Finds header (now (map .entry)) (setupAt (now (forms .entry))) block r ⌝ }
@@ -197,22 +197,28 @@ fn search(header: Header, map: &[u8], forms: &[i64; 34], block: BoxRange) -> Fou
     'scan: while k < z.end {
         let mut j = next_row(forms, k, y.first, y.end);
         'rows: while j < y.end {
-            let mut i = x.first;
+            let row = grid::cell_number(cells.x, cells.y, 0, j, k);
+            let mut i = next_cell(map, row, x.first, x.end);
             'cells: while i < x.end {
-                let n = grid::cell_number(cells.x, cells.y, i, j, k);
-                if grid::is_filled(map, n) {
-                    if overlap::may_overlap(forms, i, i, j, j, k, k) {
-                        found = Found::Cell(n);
-                        break 'scan;
-                    }
+                if overlap::may_overlap(forms, i, i, j, j, k, k) {
+                    found = Found::Cell(row + i);
+                    break 'scan;
                 }
-                i += 1;
+                i = next_cell(map, row, i + 1, x.end);
             }
             j = next_row(forms, k, j + 1, y.end);
         }
         k += 1;
     }
     found
+}
+
+// The first filled cell of a row, from `first` on and below `end`, or `end`. The row's cells are numbered from `row`.
+fn next_cell(map: &[u8], row: usize, first: usize, end: usize) -> usize
+    requires { ⌜ (first ≤ end) × (row + end ≤ 8 * length (now map)) × (row + end ≤ 262144) ⌝ }
+    ensures { λ r. ⌜ NextCell (now (map .entry)) row first end r ⌝ }
+{
+    grid::next_filled(map, row + first, row + end) - row
 }
 
 // The first row of layer k, from `first` on and below `end`, that the forms in the plane YZ do not rule out, or `end`.

@@ -132,17 +132,36 @@ fn rows(file: &[u8], map: &[u8], numbers: &[i16]) -> Answer {
             let edges = forms.edges[0].map(|e| (e.a, e.b * k as i64 + e.c));
             let mut j = next_row(&edges, y.start, y.end);
             while j < y.end {
-                for i in x.clone() {
-                    let n = number(grid, i, j, k);
-                    if is_filled(map, n) && forms.overlaps([i as i64, j as i64, k as i64]) {
-                        return Some(n);
+                let row = number(grid, 0, j, k);
+                let mut i = next_cell(map, row, x.start, x.end);
+                while i < x.end {
+                    if forms.overlaps([i as i64, j as i64, k as i64]) {
+                        return Some(row + i);
                     }
+                    i = next_cell(map, row, i + 1, x.end);
                 }
                 j = next_row(&edges, j + 1, y.end);
             }
         }
         None
     })
+}
+
+/// The first filled cell of a row, from `first` on and below `end`, or `end`. Bytes with no filled
+/// cell are skipped.
+#[inline(never)]
+fn next_cell(map: &[u8], row: usize, mut first: usize, end: usize) -> usize {
+    while first < end {
+        let n = row + first;
+        if map[n / 8] == 0 {
+            first = ((n | 7) + 1 - row).min(end);
+        } else if is_filled(map, n) {
+            break;
+        } else {
+            first += 1;
+        }
+    }
+    first
 }
 
 /// The first row of a layer, from `first` on and below `end`, that no edge rules out, or `end`. Rows

@@ -14,7 +14,7 @@ use Rattle.overlap.specs.declared.PlaneForms.{PlaneForms}
 use Rattle.overlap.specs.declared.Setup.{Setup}
 use Rattle.overlap.specs.Bounds.{cutBounds, BoundedEdges, BoundedPlane}
 use Rattle.overlap.specs.Lent.{planeFrom, setupFrom}
-use Rattle.overlap.specs.Cut.{planeHalf, edgesHalf, flipEdges, halfTest}
+use Rattle.overlap.specs.Cut.{planeHalf, edgesHalf, flipEdges, halfTest, lowerPasses, upperPasses}
 use Rattle.overlap.proofs.Sizes.{within-index}
 use Rattle.overlap.proofs.cut_test.Statement.{statement}
 use Rattle.overlap.proofs.cut_test.Tie as tie
@@ -80,8 +80,8 @@ returns c =
     let l = u .before in
     let m = l .before in
     record {
-      lower = half m false (c .halves-pass .result .lower) (l .plane-half .result) (l .plane-half .ensures) (c .halves-pass .ensures .below);
-      upper = half m true (c .halves-pass .result .upper) (u .plane-half2 .result) (u .plane-half2 .ensures) (c .halves-pass .ensures .above);
+      lower = half m false (lowerPasses (c .halves-pass .result)) (l .plane-half .result) (l .plane-half .ensures) (c .halves-pass .ensures .below);
+      upper = half m true (upperPasses (c .halves-pass .result)) (u .plane-half2 .result) (u .plane-half2 .ensures) (c .halves-pass .ensures .above);
     }
 
 -- what `plane_half` requires

@@ -3,15 +3,17 @@ use borrow.Author.Needs.{needs}
 use borrow.Author.Tests.{eq-eqb, ne-eqb}
 use mathlib.Core.Bool.{Bool, true, false, _&&_}
 use mathlib.Core.List.{List, [], _∷_}
+use mathlib.Core.Logic.{_⊎_, inl, inr}
 use mathlib.Core.Path.{_≡_, sym, ap, ap₂, _∙_}
-use Prim.Native.Nat.{ℕ}
+use Prim.Native.Nat.{ℕ, _-_}
+use native.Mathlib.Decide.{ℕ-discrete}
 use native.Mathlib.Omega.{arith}
 use lib.Dec.{eqb}
 use lib.IntN.{ℤ}
 use Rattle.integers.proofs.Expr.{Expr, var, nth}
-use Rattle.integers.proofs.Machine.{learnt, machs}
+use Rattle.integers.proofs.Machine.{learnt, cases}
 use Rattle.overlap.specs.Bounds.{cutBounds}
-use Rattle.overlap.specs.Cut.{cutEdges, RuledOut}
+use Rattle.overlap.specs.Cut.{cutEdges, lowerPasses, upperPasses, RuledOut, EdgesPass}
 use Rattle.overlap.proofs.halves_pass.Statement.{statement}
 use Rattle.overlap.proofs.halves_pass.Tie as tie
 
@@ -41,36 +43,63 @@ returns-2 c =
     let (low, high) = ruled o .both (c .if2 .taken) in
     record { below = sym (ap (λ (b : Bool). b && edges s (ρ s) false) low); above = sym (ap (λ (b : Bool). b && edges s (ρ s) true) high) }
 
--- the half that is left
-left : (c : tie.After-half-passes) → let o = c .before .before .before in let s = o .before in c .half-passes .result ≡ edges s (ρ s) (eqb (o .ruled-out .result) 1)
-left c =
-    let o = c .before .before .before in
-    let s = o .before in
-    learnt (ρ s) (λ l. c .half-passes .result ≡ edges s l (eqb (o .ruled-out .result) 1)) all (cutBounds 4) tt (s .pre .1) (c .half-passes .ensures)
+-- the half that is left, and its test
+module _ (c : tie.After-half-passes) where
+  abbrev asked : tie.After-ruled-out
+  asked = c .before .before .before
+
+  abbrev start : tie.Start
+  start = asked .before
+
+  left : c .half-passes .result ≡ edges start (ρ start) (eqb (asked .ruled-out .result) 1)
+  left = learnt (ρ start) (λ l. c .half-passes .result ≡ edges start l (eqb (asked .ruled-out .result) 1)) all (cutBounds 4) tt (start .pre .1) (c .half-passes .ensures)
+
+  -- the lower half is ruled out, and the upper passes where its edges do
+  upper-left : asked .ruled-out .result ≡ 1
+      → (false ≡ (start .args .lower && edges start (ρ start) false)) × (c .half-passes .result ≡ (start .args .upper && edges start (ρ start) true))
+  upper-left e =
+      let (low, high) = ruled asked .below e in
+      (sym low, left ∙ ap (edges start (ρ start)) (eq-eqb _ _ e) ∙ ap (λ (b : Bool). b && edges start (ρ start) true) (sym high))
+
+  lower-left : asked .ruled-out .result ≡ 2
+      → (c .half-passes .result ≡ (start .args .lower && edges start (ρ start) false)) × (false ≡ (start .args .upper && edges start (ρ start) true))
+  lower-left e =
+      let (low, high) = ruled asked .above e in
+      (left ∙ ap (edges start (ρ start)) (ne-eqb (asked .ruled-out .result) 1 (λ z. omega (arith, z, e))) ∙ ap (λ (b : Bool). b && edges start (ρ start) false) (sym low), sym high)
+
+  which : (asked .ruled-out .result ≡ 1) ⊎ (asked .ruled-out .result ≡ 2)
+  which = go (ℕ-discrete (asked .ruled-out .result) 1)
+    where
+      go : Dec (asked .ruled-out .result ≡ 1) → (asked .ruled-out .result ≡ 1) ⊎ (asked .ruled-out .result ≡ 2)
+      go (yes e) = inl e
+      go (no ne) = inr (omega (arith, ruled asked .known, c .before .before .if1 .left, c .before .if2 .left, ne))
 
 returns-3 : tie.Need-returns-3
 returns-3 c =
     let p = c .before in
-    let o = p .before .before .before in
-    let s = o .before in
-    let (low, high) = ruled o .below (c .if3 .taken) in
-    record {
-      below = sym low;
-      above = left p ∙ ap (edges s (ρ s)) (eq-eqb _ _ (c .if3 .taken)) ∙ ap (λ (b : Bool). b && edges s (ρ s) true) (sym high);
-    }
+    cases (which p)
+    (λ e.
+    let (low, high) = upper-left p e in
+    record { below = ap (λ (n : ℕ). lowerPasses (3 - n)) e ∙ low; above = ap (λ (n : ℕ). upperPasses (3 - n)) e ∙ sym (c .if3 .taken) ∙ high })
+    (λ e.
+    let (low, high) = lower-left p e in
+    record { below = ap (λ (n : ℕ). lowerPasses (3 - n)) e ∙ sym (c .if3 .taken) ∙ low; above = ap (λ (n : ℕ). upperPasses (3 - n)) e ∙ high })
 
 returns-4 : tie.Need-returns-4
 returns-4 c =
     let p = c .before in
-    let e = p .before in
-    let o = e .before .before in
-    let s = o .before in
-    let two : o .ruled-out .result ≡ 2 = omega (arith, ruled o .known, e .before .if1 .left, e .if2 .left, c .if3 .left) in
-    let (low, high) = ruled o .above two in
-    record {
-      below = left p ∙ ap (edges s (ρ s)) (ne-eqb (o .ruled-out .result) 1 (λ z. omega (arith, z, two))) ∙ ap (λ (b : Bool). b && edges s (ρ s) false) (sym low);
-      above = sym high;
-    }
+    cases (which p)
+    (λ e. let (low, high) = upper-left p e in record { below = low; above = sym (c .if3 .left) ∙ high })
+    (λ e. let (low, high) = lower-left p e in record { below = sym (c .if3 .left) ∙ low; above = high })
 
 pub halves-pass-spec : {M : Type 1} → statement M
-halves-pass-spec = tie.close (tie.spec (λ c κs. search needs) returns returns-2 (λ c κs. search needs) returns-3 returns-4)
+halves-pass-spec =
+    tie.close
+    (tie.spec
+    (λ c κs. search needs)
+    returns
+    returns-2
+    (λ c κs. search needs)
+    (λ c. omega (arith, ruled (asked (c .before)) .known))
+    returns-3
+    returns-4)

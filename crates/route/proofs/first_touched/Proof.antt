@@ -57,7 +57,7 @@ search-requires c κs =
       s .pre .0,
       s .pre .1,
       c .before .triangle-forms .ensures .bounded,
-      record { y-from = p .y .ordered; x = p .x .within; y = p .y .within; z = p .z .within },
+      record { x-from = p .x .ordered; y-from = p .y .ordered; x = p .x .within; y = p .y .within; z = p .z .within },
     )
 
 returns : tie.Need-returns

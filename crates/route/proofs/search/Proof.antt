@@ -1,9 +1,11 @@
 -- `route::search` meets its contract: no cell that is looked for lies before the loops' layer, row and cell. Assumes nothing.
 use borrow.Author.Needs.{needs}
 use borrow.Author.Count.{below-more}
-use mathlib.Core.Logic.{⊎-elim}
+use mathlib.Core.Bool.{false, true}
 use mathlib.Core.Path.{_≡_, refl, sym, ap, _∙_}
-use Prim.Native.Nat.{ℕ, _+_, _-_, _<_, _≤_}
+use Prim.Native.Nat.{ℕ, _+_, _-_, _*_, _<_, _≤_}
+use native.Mathlib.Nat.{mul-le-mul}
+use lib.ListN.{length}
 use native.Mathlib.Decide.{decLt}
 use native.Mathlib.Omega.{arith}
 use Rattle.overlap.specs.declared.BoxRange.{BoxRange}
@@ -16,15 +18,16 @@ use Rattle.grid.proofs.Numbers.{number-lt}
 use Rattle.fill.specs.Steel.{gridAt}
 use Rattle.fill.proofs.Ways.{apart}
 use Rattle.route.specs.declared.Found.the-variants.{Cell, Nothing}
-use Rattle.route.proofs.Blocks.{Layers, Rows, Cells, no-row, either, found-none, found-at}
+use Rattle.route.proofs.Blocks.{No, Layers, Rows, Cells, no-row, either, found-none, found-at}
 use Rattle.route.proofs.search.Statement.{statement}
 use Rattle.route.proofs.search.Tie as tie
 
 abbrev Inv-cells : tie.InvT-cells
-Inv-cells map forms x y z cells found₀ k j i₀ found i = (found ≡ Nothing) × (x .first ≤ i) × Cells map (cells .x) (cells .y) (setupAt forms) x y z k j i
+Inv-cells map forms x y z cells found₀ k j row i₀ found i =
+    (found ≡ Nothing) × (x .first ≤ i) × (i < x .end → isFilled map (row + i) ≡ true) × Cells map (cells .x) (cells .y) (setupAt forms) x y z k j i
 
 abbrev μ-cells : tie.MeasureT-cells
-μ-cells map forms x y z cells found₀ k j i₀ found i = x .end - i
+μ-cells map forms x y z cells found₀ k j row i₀ found i = x .end - i
 
 abbrev Inv-rows : tie.InvT-rows
 Inv-rows map forms x y z cells found₀ k j₀ found j = (found ≡ Nothing) × (y .first ≤ j) × Rows map (cells .x) (cells .y) (setupAt forms) x y z k j
@@ -58,7 +61,7 @@ abbrev scan-of : In-rows → Scan
 scan-of c = c .before .before .before .before
 
 abbrev rows-of : In-cells → In-rows
-rows-of c = c .before .before .before
+rows-of c = c .before .before .before .before .before
 
 abbrev grid : Start → Grid
 grid s = gridAt (s .args .header)
@@ -88,7 +91,7 @@ k-at : (m : In-rows) → scan-of m .scan .k < block (start (scan-of m)) .z .end
 k-at m = m .before .before .if1 .taken
 
 j-at : (l : In-cells) → rows-of l .rows .j < block (start (scan-of (rows-of l))) .y .end
-j-at l = l .before .if2 .taken
+j-at l = l .before .before .before .if2 .taken
 
 -- ---- the loop over layers
 next-row-requires : tie.Need-next-row-requires Inv-cells μ-cells Inv-rows μ-rows Inv-scan μ-scan
@@ -139,59 +142,90 @@ rows-again c =
           (λ v.
           either (decLt (m .rows .j) j)
           (λ w. no-row (s .args .map .now) (grid s .nx) (grid s .ny) (forms s) (b .x) (b .y) (b .z) j (o .scan .k) (next .skipped j u (omega arith)) a ha hj)
-          (λ w. let e : j ≡ m .rows .j = omega arith in rw e (l .cells .inv .2 a (omega (arith, ha .1, c .before .if3 .left)) ha (rw e at hj)))),
+          (λ w. let e : j ≡ m .rows .j = omega arith in rw e (l .cells .inv .3 a (omega (arith, ha .1, c .before .if3 .left)) ha (rw e at hj)))),
     )
 
 -- ---- the loop over cells
-abbrev Number : Type 0
-Number = tie.After-cell-number Inv-cells μ-cells Inv-rows μ-rows Inv-scan μ-scan
+abbrev Row : Type 0
+Row = tie.After-cell-number Inv-cells μ-cells Inv-rows μ-rows Inv-scan μ-scan
 
-abbrev cells-of : Number → In-cells
-cells-of c = c .before .before .before
+abbrev rows-at : Row → In-rows
+rows-at c = c .before .before .before
 
 cell-number-requires : tie.Need-cell-number-requires Inv-cells μ-cells Inv-rows μ-rows Inv-scan μ-scan
 cell-number-requires c κs =
-    let l = c .before .before in
-    let m = rows-of l in
+    let m = c .before .before in
     let s = start (scan-of m) in
     let p = s .pre .0 in
-    (p .x .most, p .y .most, i-in s (c .if3 .taken), j-in s (j-at l), k-in s (k-at m))
+    (p .x .most, p .y .most, omega arith, j-in s (c .if2 .taken), k-in s (k-at m))
 
-is-filled-requires : tie.Need-is-filled-requires Inv-cells μ-cells Inv-rows μ-rows Inv-scan μ-scan
-is-filled-requires c κs =
-    let l = cells-of c in
-    let m = rows-of l in
+-- the number of a cell of the row, and that the row lies in the grid
+cell-is : (c : Row) (i : ℕ) → let m = rows-at c in let g = grid (start (scan-of m)) in
+    c .cell-number .result + i ≡ cellNumber (g .nx) (g .ny) i (m .rows .j) (scan-of m .scan .k)
+cell-is c i = omega (arith, c .cell-number .ensures)
+
+row-fits : (c : Row) → let g = grid (start (scan-of (rows-at c))) in c .cell-number .result + g .nx ≤ g .nx * g .ny * g .nz
+row-fits c =
+    let m = rows-at c in
     let o = scan-of m in
     let s = start o in
+    let g = grid s in
     let p = s .pre in
-    let i : l .cells .i < grid s .nx = omega (arith, c .before .if3 .taken, p .3 .x) in
-    let j : m .rows .j < grid s .ny = omega (arith, j-at l, p .3 .y) in
-    let k : o .scan .k < grid s .nz = omega (arith, k-at m, p .3 .z) in
-    omega (arith, c .cell-number .ensures, number-lt (grid s .nx) (grid s .ny) (grid s .nz) (l .cells .i) (m .rows .j) (o .scan .k) i j k, p .1)
+    let j : m .rows .j < g .ny = omega (arith, c .before .if2 .taken, p .3 .y) in
+    let k : o .scan .k < g .nz = omega (arith, k-at m, p .3 .z) in
+    let some = p .0 .x .some in
+    omega (arith, cell-is c (g .nx - 1), number-lt (g .nx) (g .ny) (g .nz) (g .nx - 1) (m .rows .j) (o .scan .k) (omega (arith, some)) j k, some)
+
+-- what `next_cell` requires of a row
+in-row : (c : Row) → let s = start (scan-of (rows-at c)) in let end = c .cell-number .result + block s .x .end in
+    (end ≤ 8 * length (s .args .map .now)) × (end ≤ 262144)
+in-row c =
+    let s = start (scan-of (rows-at c)) in
+    let p = s .pre in
+    let most = mul-le-mul (mul-le-mul (p .0 .x .most) (p .0 .y .most)) (p .0 .z .most) in
+    (omega (arith, row-fits c, p .3 .x, p .1), omega (arith, row-fits c, p .3 .x, most))
+
+-- a cell that is not filled is not looked for
+not-filled : (c : Row) (i : ℕ) → let m = rows-at c in let s = start (scan-of m) in let b = block s in
+    isFilled (s .args .map .now) (c .cell-number .result + i) ≡ false
+    → No (s .args .map .now) (grid s .nx) (grid s .ny) (forms s) (b .x) (b .y) (b .z) i (m .rows .j) (scan-of m .scan .k)
+not-filled c i clear _ _ _ filled _ =
+    let s = start (scan-of (rows-at c)) in
+    apart (ap (isFilled (s .args .map .now)) (cell-is c i) ∙ filled) clear
+
+cells-holds : tie.Need-cells-holds Inv-cells μ-cells Inv-rows μ-rows Inv-scan μ-scan
+cells-holds c =
+    let r = c .before in
+    let next = c .next-cell .ensures in
+    (rows-at r .rows .inv .0, next .from, next .stopped, λ a l ha. not-filled r a (next .skipped a l (ha .0)) ha)
 
 may-overlap-requires : tie.Need-may-overlap-requires Inv-cells μ-cells Inv-rows μ-rows Inv-scan μ-scan
 may-overlap-requires c κs =
-    let n = c .before .before in
-    let l = cells-of n in
+    let l = c .before .before in
     let m = rows-of l in
     let s = start (scan-of m) in
-    let i = i-in s (n .before .if3 .taken) in
+    let i = i-in s (c .if3 .taken) in
     let j = j-in s (j-at l) in
     let k = k-in s (k-at m) in
     (s .pre .2, (omega arith, (omega arith, (omega arith, (omega arith, (omega arith, (omega arith, tt)))))))
 
 cells-again : tie.Need-cells-again Inv-cells μ-cells Inv-rows μ-rows Inv-scan μ-scan
 cells-again c =
-    let n = c .before .before in
-    let l = cells-of n in
-    let s = start (scan-of (rows-of l)) in (
+    let e = c .before in
+    let t = e .before in
+    let l = t .before .before .before in
+    let r = l .before .before in
+    let next = c .next-cell2 .ensures in (
       l .cells .inv .0,
-      omega arith,
-      below-more _ _ (l .cells .inv .2)
-          (λ _ _ _ filled touched.
-          ⊎-elim (λ w. apart touched (sym (w .1 .ensures) ∙ w .2 .left))
-          (λ w. apart filled (ap (isFilled (s .args .map .now)) (sym (n .cell-number .ensures)) ∙ sym (c .before .is-filled .ensures) ∙ w .left))
-          (c .if4 .came)),
+      omega (arith, next .from, l .cells .inv .1),
+      next .stopped,
+      λ a u ha hj hk filled touched.
+          either (decLt a (l .cells .i)) (λ v. l .cells .inv .3 a v ha hj hk filled touched)
+          (λ v.
+          either (decLt (l .cells .i) a) (λ w. not-filled r a (next .skipped a u (omega arith)) ha hj hk filled touched)
+          (λ w.
+          let same : a ≡ l .cells .i = omega arith in
+          apart (rw same at touched) (sym (t .may-overlap .ensures) ∙ e .if4 .left))),
     )
 
 -- ---- the answers
@@ -206,21 +240,23 @@ returns c t is picks =
 
 returns-2 : tie.Need-returns-2 Inv-cells μ-cells Inv-rows μ-rows Inv-scan μ-scan
 returns-2 c t is picks =
-    let n = c .before .before .before .before in
-    let l = cells-of n in
+    let e = c .before in
+    let l = e .before .before .before in
+    let r = l .before .before in
     let m = rows-of l in
     let o = scan-of m in
     let s = start o in
     let a = s .args in
     let b = block s in
-    ap Cell (n .cell-number .ensures)
+    let i-at = e .before .if3 .taken in
+    ap Cell (cell-is r (l .cells .i))
     ∙ sym
     (found-at (a .map .now) (grid s) (forms s) (b .x) (b .y) (b .z) t is picks (s .pre .0 .x .some) (s .pre .0 .y .some)
     (l .cells .i) (m .rows .j) (o .scan .k)
-    (l .cells .inv .1, n .before .if3 .taken) (m .rows .inv .1, j-at l) (o .scan .inv .1, k-at m)
-    (ap (isFilled (a .map .now)) (sym (n .cell-number .ensures)) ∙ sym (c .before .before .before .is-filled .ensures) ∙ c .before .before .if4 .taken)
-    (sym (c .before .may-overlap .ensures) ∙ c .if5 .taken)
-    (o .scan .inv .2) (m .rows .inv .2) (l .cells .inv .2))
+    (l .cells .inv .1, i-at) (m .rows .inv .1, j-at l) (o .scan .inv .1, k-at m)
+    (ap (isFilled (a .map .now)) (sym (cell-is r (l .cells .i))) ∙ l .cells .inv .2 i-at)
+    (sym (e .may-overlap .ensures) ∙ c .if4 .taken)
+    (o .scan .inv .2) (m .rows .inv .2) (l .cells .inv .3))
 
 pub search-spec : {M : Type 1} → statement M
 search-spec =
@@ -235,12 +271,14 @@ search-spec =
     (λ c. (refl, omega arith, λ d l a b _ _ h _ _. omega (arith, h .0)))
     next-row-requires
     rows-holds
-    (λ c. (c .before .before .rows .inv .0, omega arith, λ a l h _ _ _ _. omega (arith, h .0)))
     cell-number-requires
-    is-filled-requires
+    (λ c κs. let r = in-row c in (start (scan-of (rows-at c)) .pre .3 .x-from, r .0, r .1))
+    cells-holds
     may-overlap-requires
-    (λ c. search needs)
-    (λ c. omega arith)
+    (λ c. let l = c .before .before .before .before in omega (arith, in-row (l .before .before), c .before .before .if3 .taken))
+    (λ c. let l = c .before .before .before .before in omega (arith, in-row (l .before .before), c .before .before .if3 .taken))
+    (λ c κs. let r = in-row (c .before .before .before .before .before .before) in (omega (arith, c .before .before .if3 .taken), r .0, r .1))
+    (λ c. omega (arith, c .next-cell2 .ensures .from, c .before .before .before .if3 .taken))
     cells-again
     (λ c. search needs)
     next-row-requires-2
