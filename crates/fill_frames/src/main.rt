@@ -499,11 +499,37 @@ const RANDOM: [u8; 12] = [
     0x00,
 ];
 
+// The header of the worked frames' grid with 4,095 triangles.
+const MOST: [u8; 12] = [
+    0x10,
+    0x41,
+    0x04,
+    0x28,
+    0x00,
+    0x00,
+    0x00,
+    0x00,
+    0x00,
+    0xff,
+    0xf0,
+    0x00,
+];
+
+// Where the triangle of a stands in WORKED.
+const A: usize = 12;
+
+// Where that of d does.
+const D: usize = 96;
+
+// Where that of e does.
+const E: usize = 124;
+
 fn main() {
     worked();
     small();
     refused();
     longest();
+    only_one();
     largest();
     short();
 }
@@ -514,6 +540,12 @@ fn longest() {
     random_frame(&mut file);
     let mut map = [0xaau8; 66];
     show_sum(b"4095 triangles", &file, &mut map);
+}
+
+// Of 4,095 triangles only the last fills a cell, or only the first.
+fn only_one() {
+    show_one(b"only the last of 4095", 4094, D);
+    show_one(b"only the first of 4095", 0, A);
 }
 
 // The largest map, with two bytes behind it.
@@ -592,6 +624,28 @@ fn random_frame(file: &mut [u8]) {
     }
 }
 
+// 4,095 triangles: number n stands in WORKED at `one`, and each other is that of e, which fills no cell.
+fn one_frame(file: &mut [u8], n: usize, one: usize)
+    requires { ⌜ one ≤ 236 ⌝ }
+{
+    copy(&MOST, file);
+    let files = WORKED;
+    let mut i = 12;
+    while i < file.len() {
+        let at = i - 12;
+        file[i] = files[chosen(at / 16 == n, one) + at % 16];
+        i += 1;
+    }
+}
+
+// Where a triangle stands in WORKED: the one that is asked for, or that of e.
+fn chosen(asked: bool, one: usize) -> usize
+    requires { ⌜ one ≤ 236 ⌝ }
+    ensures { λ r. ⌜ r ≤ 236 ⌝ }
+{
+    if asked { one } else { E }
+}
+
 // The next number of a linear congruential generator.
 fn next(state: u64) -> u64 {
     (state % 2147483648 * 1103515245 + 12345) % 2147483648
@@ -612,6 +666,15 @@ fn show(name: &[u8], file: &[u8]) {
     say(name, fill::fill(file, &mut map));
     bytes(&map);
     io::write_all(STDOUT_FILENO, b"\n");
+}
+
+// A line for 4,095 triangles of which number n alone can fill cells.
+fn show_one(name: &[u8], n: usize, one: usize)
+    requires { ⌜ one ≤ 236 ⌝ }
+{
+    let mut file = [0u8; 65532];
+    one_frame(&mut file, n, one);
+    show(name, &file);
 }
 
 // A line with the answer and a sum over the bytes of the buffer.
