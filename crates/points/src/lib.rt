@@ -29,11 +29,11 @@ pub fn test_points(file: &[u8], map: &[u8], points: &[Point]) -> RouteAnswer
     test_copied(file, map, numbers, count)
 }
 
-// The same of the first `count` points of an array, or of all 65: for callers that hold their points by value.
-pub fn test_first_points(file: &[u8], map: &[u8], points: [Point; 65], count: usize) -> RouteAnswer
+// The same of the first `count` points of an array, or of all 128: for callers that hold their points by value.
+pub fn test_first_points(file: &[u8], map: &[u8], points: [Point; 128], count: usize) -> RouteAnswer
     ensures { λ r. ⌜ (r ≡ routeAnswer (now (file .entry)) (now (map .entry)) (numbersOf (take count points))) × DemandOf (now (file .entry)) (now (map .entry)) (numbersOf (take count points)) r ⌝ }
 {
-    let end = copied_count(count);
+    let end = lent_count(count);
     test_points(file, map, &points[..end])
 }
 
@@ -42,6 +42,13 @@ fn copied_count(count: usize) -> usize
     ensures { λ r. ⌜ r ≡ min count 65 ⌝ }
 {
     if count < 65 { count } else { 65 }
+}
+
+// How many points of an array are lent.
+fn lent_count(count: usize) -> usize
+    ensures { λ r. ⌜ r ≡ min count 128 ⌝ }
+{
+    if count < 128 { count } else { 128 }
 }
 
 // The numbers with those of point i in their places.

@@ -39,6 +39,7 @@ const G: [u8; 28] = [
 fn main() {
     worked();
     counts();
+    last();
     places();
     in_turn();
     as_it_is();
@@ -62,7 +63,16 @@ fn counts() {
     show(b"2 points", &[5i16; 12], 2);
     show(b"64 points", &[5i16; 12], 64);
     show(b"65 points", &[5i16; 12], 65);
-    show(b"a count above 65", &[5i16; 12], 66);
+    show(b"100 points", &[5i16; 12], 100);
+    show(b"128 points", &[5i16; 12], 128);
+    show(b"a count above 128", &[5i16; 12], 129);
+}
+
+// The last of 64 points counts, and one behind the last does not.
+fn last() {
+    show_last(b"64 points, leg 62 blocked", &[10, 10, 0], 64);
+    show_last(b"64 points, the last outside", &[21, 20, 20], 64);
+    show_last(b"63 points, one outside behind them", &[21, 20, 20], 63);
 }
 
 // Question 10: each side of the grid, and the lowest point outside.
@@ -126,6 +136,15 @@ fn show(name: &[u8], numbers: &[i16], count: usize) {
     ask(name, &G, &map, numbers, count);
 }
 
+// A line for a route of `count` points at the origin, on the map of g, with these numbers for point 63.
+fn show_last(name: &[u8], numbers: &[i16], count: usize) {
+    let mut map = [0xaau8; 3];
+    fill::fill(&G, &mut map);
+    let mut route = points_of(&[0i16; 12]);
+    route[63] = point_at(numbers, 0);
+    say(name, points::test_first_points(&G, &map, route, count));
+}
+
 // A line for a route of the first `count` points.
 fn ask(name: &[u8], file: &[u8], map: &[u8], numbers: &[i16], count: usize) {
     let route = points_of(numbers);
@@ -133,9 +152,9 @@ fn ask(name: &[u8], file: &[u8], map: &[u8], numbers: &[i16], count: usize) {
 }
 
 // The numbers as points: four of their own, and the rest equal to the first.
-fn points_of(numbers: &[i16]) -> [Point; 65] {
+fn points_of(numbers: &[i16]) -> [Point; 128] {
     let first = point_at(numbers, 0);
-    let mut points = [first; 65];
+    let mut points = [first; 128];
     points[1] = point_at(numbers, 3);
     points[2] = point_at(numbers, 6);
     points[3] = point_at(numbers, 9);

@@ -60,13 +60,13 @@ use Rattle.route.proofs.RouteAnswer.Laws as R′
 use Rattle.points.specs.declared.Point.{Point}
 use Rattle.points.specs.Points.{numbersOf}
 use Rattle.points.proofs.Numbers.{take-min}
-use Rattle.points.proofs.Callees.{slice, bytes, Count, to-count, goes-count, count-said, Lent, again}
+use Rattle.points.proofs.Callees.{slice, bytes, Counted, Count, to-count, goes-count, count-said, Lent, again}
 use Rattle.points.proofs.Point as T
 use Rattle.points.proofs.Point.Laws as T′
-use Rattle.points.proofs.copied_count as count
-use Rattle.points.proofs.copied_count.Symbol as count-def
-use Rattle.points.proofs.copied_count.Symbol.{name as #points·copied-count}
-use Rattle.points.proofs.copied_count.Met as count-thm
+use Rattle.points.proofs.lent_count as count
+use Rattle.points.proofs.lent_count.Symbol as count-def
+use Rattle.points.proofs.lent_count.Symbol.{name as #points·lent-count}
+use Rattle.points.proofs.lent_count.Met as count-thm
 use Rattle.points.proofs.test_points as test
 use Rattle.points.proofs.test_points.Symbol as test-def
 use Rattle.points.proofs.test_points.Symbol.{name as #points·test-points}
@@ -77,12 +77,15 @@ use Rattle.points.proofs.test_first_points.Statement as stated
 use Rattle.points.proofs.test_first_points.Code as code
 use Rattle.points.proofs.test_first_points.Code.Mir as mir
 
--- the array's type, and the locals' types
+-- how many points the array has, its type, and the locals' types
+abbrev most : ℕ
+most = 128
+
 abbrev Pts : RattleType
-Pts = Array T.the-row 65
+Pts = Array T.the-row most
 
 abbrev array : Ty
-array = tyArray T′.mir 65
+array = tyArray T′.mir most
 
 abbrev word : Ty
 word = tyInt w64
@@ -123,13 +126,13 @@ module _ {M : Type 1} (𝓤 : URA M) (H : Heap 𝓤) (A : Atoms 𝓤) (W : Given
       use2 W (‵ (row T.the-row fullShare xs b o′)) (joins k xs b o′) $ move ! (1 ∷ 0 ∷ []) $ fjoin ! $ done !
 
 module _ {M : Type 1} (𝓤 : URA M) (H : Heap 𝓤) (A : Atoms 𝓤) (mem : Memory → SProp 𝓤) (run : Routine → Fun 𝓤) where
-  -- the contract that the proof cites beside that of `copied_count`
+  -- the contract that the proof cites beside that of `lent_count`
   abbrev Test : Contract 𝓤
   Test = tripleOf 𝓤 H A test.signature (test.spec 𝓤 H A mem run)
 
   -- that each callee meets its contract
   abbrev Known : Tables 𝓤 H → Type 1
-  Known 𝓣 = Triple 𝓤 (𝓣 .C #points·copied-count) (Count 𝓤 H A mem run) × Triple 𝓤 (𝓣 .C #points·test-points) Test
+  Known 𝓣 = Triple 𝓤 (𝓣 .C #points·lent-count) (Count 𝓤 H A most) × Triple 𝓤 (𝓣 .C #points·test-points) Test
 
 module _ {M : Type 1} (𝓤 : URA M) (H : Heap 𝓤) (A : Atoms 𝓤) (W : Given 𝓤 H A) (mem : Memory → SProp 𝓤) (run : Routine → Fun 𝓤) (κ₀ κ₁ : Lft) (q₀ q₁ : Share) (file map : RefT (List ℕ))
     (xs : List Point) (n : ℕ) (is-array : Is Pts xs (vals xs)) (fits : n < 2 ^ 64) where
@@ -137,7 +140,7 @@ module _ {M : Type 1} (𝓤 : URA M) (H : Heap 𝓤) (A : Atoms 𝓤) (W : Given
   abbrev u : Val
   u = arrayVal (each (λ (x : Point). T′.lowered x) xs)
 
-  len-is : length xs ≡ 65
+  len-is : length xs ≡ most
   len-is = is-array .1 .0 .1
 
   -- what the function is called with
@@ -172,16 +175,16 @@ module _ {M : Type 1} (𝓤 : URA M) (H : Heap 𝓤) (A : Atoms 𝓤) (W : Given
   exits r w e =
       qed W (‵ (R.the-row .own r (w ∷ [])) ∷ Tokens ∷ L ∷ []) ∵
       suffices ! _ (ends-at 𝓤 H A self.ended stayed (self.clauses 𝓤 H A mem run) W asked w r (tt, (tt, (tt, (tt, tt)))) (tt, (tt, (tt, (tt, tt))))) $ says ! e $ move ! (1 ∷ []) $ frame ! $
-      nothing ! $ owned ! usize (Is usize) (uint-makes 𝓤 H A W w64) n _ (refl, fits) $ fjoin ! $ owned ! Pts (Is Pts) (array-makes 𝓤 H A W T.the-row (LL.makes T.the-type T′.the-plain 𝓤 H A) 65) xs _ is-array $ fjoin ! $
+      nothing ! $ owned ! usize (Is usize) (uint-makes 𝓤 H A W w64) n _ (refl, fits) $ fjoin ! $ owned ! Pts (Is Pts) (array-makes 𝓤 H A W T.the-row (LL.makes T.the-type T′.the-plain 𝓤 H A) most) xs _ is-array $ fjoin ! $
       move ! (2 ∷ []) $ split ! $ move ! (1 ∷ 2 ∷ []) $ fjoin ! $ move ! (1 ∷ 0 ∷ []) $ fjoin ! $ frame ! $ done !
 
   -- ---- the array is lent, where the locals stand at l₀ to l₈, and k points are tested
-  module _ (𝓣 : Tables 𝓤 H) (known : Known 𝓤 H A mem run 𝓣) (k : ℕ) (k-is : k ≡ min n 65) (l₀ l₁ l₂ l₃ l₄ l₅ l₆ l₇ l₈ : ℕ) where
-    k≤65 : k ≤ 65
-    k≤65 = omega (arith, k-is)
+  module _ (𝓣 : Tables 𝓤 H) (known : Known 𝓤 H A mem run 𝓣) (k : ℕ) (k-is : k ≡ min n most) (l₀ l₁ l₂ l₃ l₄ l₅ l₆ l₇ l₈ : ℕ) where
+    k≤most : k ≤ most
+    k≤most = omega (arith, k-is)
 
     taken-is : length (take k xs) ≡ k
-    taken-is = length-take-le k xs (omega (arith, k≤65, len-is))
+    taken-is = length-take-le k xs (omega (arith, k≤most, len-is))
 
     -- the slice that is lent
     abbrev s : GName → RefT (List Point)
@@ -219,11 +222,11 @@ module _ {M : Type 1} (𝓤 : URA M) (H : Heap 𝓤) (A : Atoms 𝓤) (W : Given
         (runs (𝓣 .C) (𝓣 .Λ) En mir.t-3 (atRet En Post))
     rest =
         assigns ! (addr ! (from ! (stop !))) (from ! (stop !)) (init ! 2 refl (tt, tt)) $
-        assigns ! (agg ! (and-then ! (load ! (from ! (stop !)) (look ! 2 refl)) (and-then ! (load ! (from ! (stop !)) (look ! 4 refl)) (no-more !)))) (from ! (stop !)) (init ! 0 refl (tt, (tt, (record { fits = omega (arith, k≤65) }, tt)))) $
+        assigns ! (agg ! (and-then ! (load ! (from ! (stop !)) (look ! 2 refl)) (and-then ! (load ! (from ! (stop !)) (look ! 4 refl)) (no-more !)))) (from ! (stop !)) (init ! 0 refl (tt, (tt, (record { fits = omega (arith, k≤most) }, tt)))) $
         rewrite ! 0 (λ (m : ℕ). ‵ (fat fullShare lent l₈ 0 (sliceVal (l₅, 0) m))) (sym taken-is) refl $
         -- the array is made its elements, and the first k are lent
-        owned ! Pts (Is Pts) (array-makes 𝓤 H A W T.the-row (LL.makes T.the-type T′.the-plain 𝓤 H A) 65) xs (u ∷ []) is-array $ move ! (7 ∷ 0 ∷ []) $
-        use2 W (‵ (partAt Pts fullShare xs l₅ 0)) (part-in 𝓤 H A W Pts refl fullShare xs l₅ 0 u) $ use1 W (‵ (arr-parts (shares T.the-row) 65 .part fullShare xs l₅ 0)) (array-apart 𝓤 H A W T.the-row fullShare tt 65 xs l₅ 0) $
+        owned ! Pts (Is Pts) (array-makes 𝓤 H A W T.the-row (LL.makes T.the-type T′.the-plain 𝓤 H A) most) xs (u ∷ []) is-array $ move ! (7 ∷ 0 ∷ []) $
+        use2 W (‵ (partAt Pts fullShare xs l₅ 0)) (part-in 𝓤 H A W Pts refl fullShare xs l₅ 0 u) $ use1 W (‵ (arr-parts (shares T.the-row) most .part fullShare xs l₅ 0)) (array-apart 𝓤 H A W T.the-row fullShare tt most xs l₅ 0) $
         fsplit ! $ drop ! $ use1 W (‵ (row T.the-row fullShare (take k xs) l₅ 0) ⊛ ‵ (past k xs l₅ 0)) (cuts 𝓤 H A W k xs l₅ 0) $ split ! $
         feqI ! ℕ (length (take k xs)) (length (take k xs)) refl $ fjoin ! $
         lft-new ! tt (λ α. move ! (1 ∷ []) $
@@ -238,7 +241,7 @@ module _ {M : Type 1} (𝓤 : URA M) (H : Heap 𝓤) (A : Atoms 𝓤) (W : Given
         peeks ! R.the-row (Is R.the-row) (shows 𝓤 H A R.the-row) r (w ∷ []) (λ is. move ! (1 ∷ []) $ split ! $ move ! (1 ∷ []) $ split ! $ move ! (1 ∷ []) $ split ! $
         -- [the new token; true; token 1; token 0; the answer; the file and the map; what the lender has; what lies behind; _8; …]: the lifetime ends, and the elements come back
         lft-end ! tt $ move ! (0 ∷ 6 ∷ []) $ lent-back ! tt $ fsplit ! $ drop ! $ move ! (0 ∷ 6 ∷ []) $ use2 W (‵ (row T.the-row fullShare xs l₅ 0)) (joins 𝓤 H A W k xs l₅ 0) $
-        feqI ! ℕ (length xs) 65 len-is $ fjoin ! $ use1 W (‵ (partAt Pts fullShare xs l₅ 0)) (array-whole 𝓤 H A W T.the-row fullShare 65 xs l₅ 0) $
+        feqI ! ℕ (length xs) most len-is $ fjoin ! $ use1 W (‵ (partAt Pts fullShare xs l₅ 0)) (array-whole 𝓤 H A W T.the-row fullShare most xs l₅ 0) $
         use1 W (some (λ (u′ : Val). ‵ (fat fullShare array l₅ 0 u′) ⊛ ‵ (Pts .own xs (u′ ∷ [])))) (part-out 𝓤 H A W Pts refl fullShare xs l₅ 0) $ pick ! (λ u′. split ! $
         -- [_5; what it owns; true; token 1; token 0; the answer; the file and the map; _8; …; that _5 dies; _4; …; _0; that it dies]
         land ! (from ! (stop !)) (init ! 22 refl (EL.lawful R.the-type R′.the-laws 𝓤 H A W tt .typed r _ is .0)) $
@@ -248,7 +251,7 @@ module _ {M : Type 1} (𝓤 : URA M) (H : Heap 𝓤) (A : Atoms 𝓤) (W : Given
         drop ! $ move ! (1 ∷ 0 ∷ []) $ join ! $ move ! (1 ∷ 0 ∷ []) $ join ! $ move ! (1 ∷ 0 ∷ []) $ by ! (exits r w (subst (λ (ps : List Point). Meant ps r) taken e)))))))))
       where
         room : Room T.the-row (length (take k xs))
-        room = (omega (arith, taken-is, k≤65), omega (arith, taken-is, k≤65))
+        room = (omega (arith, taken-is, k≤most), omega (arith, taken-is, k≤most))
 
         taken : take k xs ≡ take n xs
         taken = ap (λ (j : ℕ). take j xs) (k-is ∙ ap (min n) (sym len-is)) ∙ take-min n xs
@@ -264,22 +267,22 @@ module _ {M : Type 1} (𝓤 : URA M) (H : Heap 𝓤) (A : Atoms 𝓤) (W : Given
         pass1 ! (init ! 10 refl wt) $ pass1 ! (init ! 8 refl (tt, record { fits = fits })) $ pass0 ! $
         -- [_8; that it dies; _7; …; _0; that it dies; what there is on entry]
         assigns ! (of-opd ! (load ! (from ! (stop !)) (look ! 10 refl))) (from ! (stop !)) (init ! 6 refl wt) $
-        use0 W (raw (Count 𝓤 H A mem run .pre (to-count 𝓤 H A mem run n))) (goes-count 𝓤 H A mem run n W fits) $
-        calls-at ! (fmOf 𝓤 H (W .laws) 𝓣) (Count 𝓤 H A mem run) (known .0) (to-count 𝓤 H A mem run n) (and-then ! (load ! (from ! (stop !)) (look ! 9 refl)) (no-more !)) (λ w.
-        use1 W (later (some (λ (r : ℕ). (‵ ftrue ⊛ ‵ (usize .own r (w ∷ []))) ⊛ raw (ensured 𝓤 H A count.ended (count.clauses 𝓤 H A mem run) tt (n, tt) tt r)))) (id⊢ 𝓤 _) $ await ! tt $ pick ! (λ k.
-        split ! $ move ! (1 ∷ []) $ use1 W (raw (fact 𝓤 (k ≡ min n 65))) (count-said 𝓤 H A mem run n k) $ heard ! (k ≡ min n 65) (λ k-is. split ! $ drop ! $
+        use0 W (raw (Count 𝓤 H A most .pre (to-count 𝓤 H A most n))) (goes-count 𝓤 H A most n W fits) $
+        calls-at ! (fmOf 𝓤 H (W .laws) 𝓣) (Count 𝓤 H A most) (known .0) (to-count 𝓤 H A most n) (and-then ! (load ! (from ! (stop !)) (look ! 9 refl)) (no-more !)) (λ w.
+        use1 W (later (some (λ (r : ℕ). (‵ ftrue ⊛ ‵ (usize .own r (w ∷ []))) ⊛ raw (ensured 𝓤 H A count.ended (Counted 𝓤 H A most) tt (n, tt) tt r)))) (id⊢ 𝓤 _) $ await ! tt $ pick ! (λ k.
+        split ! $ move ! (1 ∷ []) $ use1 W (raw (fact 𝓤 (k ≡ min n most))) (count-said 𝓤 H A most n k) $ heard ! (k ≡ min n most) (λ k-is. split ! $ drop ! $
         facts ! usize (Is usize) (shows 𝓤 H A usize) k (w ∷ []) (λ is.
         land ! (from ! (stop !)) (init ! 4 refl (uint-lawful 𝓤 H A W w64 .typed k _ is .0)) $ rewrite ! 4 (λ (v′ : Val). ‵ (fat fullShare word l₆ 0 v′)) (ap only (is .0)) refl $
         rest 𝓣 known k k-is l₀ l₁ l₂ l₃ l₄ l₅ l₆ l₇ l₈)))))))))))))
       where
         wt : Holds (hasTy array u) × WT u
-        wt = array-lawful 𝓤 H A W T.the-row (LL.lawful T.the-type T′.the-laws 𝓤 H A W) 65 .typed xs (vals xs) is-array .0
+        wt = array-lawful 𝓤 H A W T.the-row (LL.lawful T.the-type T′.the-laws 𝓤 H A W) most .typed xs (vals xs) is-array .0
 
 module _ {M : Type 1} (𝓤 : URA M) (H : Heap 𝓤) (A : Atoms 𝓤) (W : Given 𝓤 H A) (mem : Memory → SProp 𝓤) (run : Routine → Fun 𝓤) (𝓣 : Tables 𝓤 H) (known : Known 𝓤 H A mem run 𝓣) where
   walks : Walks 𝓤 H A self.ended stayed (WpFn 𝓤 H (𝓣 .C) (𝓣 .Λ) code.function) (self.clauses 𝓤 H A mem run)
   walks =
       walked 𝓤 H A self.ended stayed (self.clauses 𝓤 H A mem run) (WpFn 𝓤 H (𝓣 .C) (𝓣 .Λ) code.function) (λ κs. (slice-vals, (slice-vals, (vals, (uint-vals w64, tt)))))
-      (λ κs. (shr-slice-tells (named 0) (κs .0) u8, (shr-slice-tells (named 1) (κs .1 .0) u8, (array-tells T.the-row (LL.vals T.the-type T′.the-laws) (LL.tells T.the-type T′.the-laws) 65, (uint-tells w64, tt)))))
+      (λ κs. (shr-slice-tells (named 0) (κs .0) u8, (shr-slice-tells (named 1) (κs .1 .0) u8, (array-tells T.the-row (LL.vals T.the-type T′.the-laws) (LL.tells T.the-type T′.the-laws) most, (uint-tells w64, tt)))))
       (λ κs qs bounds a g are. via 𝓤 _ (fst∗ 𝓤 _ (emp 𝓤))
       (walk 𝓤 H A W mem run (κs .0) (κs .1 .0) (qs .0) (qs .1 .0) (a .0) (a .1 .0) (a .1 .1 .0) (a .1 .1 .1 .0) (are .1 .1 .0) (are .1 .1 .1 .0 .1) 𝓣 known (are .0) (are .1 .0)))
 
@@ -295,6 +298,6 @@ test-first-points-spec 𝓤 H 𝓜 𝓖 𝓡 =
     entered 𝓤 H (tripleOf 𝓤 H (𝓖 .A) self.signature (self.spec 𝓤 H (𝓖 .A) (𝓜 .mem) (𝓡 .run)))
     (tables 𝓤 H 𝓜 𝓡 code.env .C) (tables 𝓤 H 𝓜 𝓡 code.env .Λ) #points·test-first-points code.function (code.unfolded 𝓤 H 𝓜 𝓡)
     (meets 𝓤 H (𝓖 .A) (givenOf 𝓤 H 𝓜 𝓖) (𝓜 .mem) (𝓡 .run) (tablesOf 𝓤 H 𝓜 (tables 𝓤 H 𝓜 𝓡 code.env)) (
-      cited 𝓤 H (Count 𝓤 H (𝓖 .A) (𝓜 .mem) (𝓡 .run)) 𝓜 𝓡 code.env #points·copied-count count-def.routine code.calls-points·copied-count (count-thm.met 𝓤 H 𝓜 𝓖 𝓡),
+      cited 𝓤 H (Count 𝓤 H (𝓖 .A) most) 𝓜 𝓡 code.env #points·lent-count count-def.routine code.calls-points·lent-count (count-thm.met 𝓤 H 𝓜 𝓖 𝓡),
       cited 𝓤 H (Test 𝓤 H (𝓖 .A) (𝓜 .mem) (𝓡 .run)) 𝓜 𝓡 code.env #points·test-points test-def.routine code.calls-points·test-points (test-thm.met 𝓤 H 𝓜 𝓖 𝓡),
     ))

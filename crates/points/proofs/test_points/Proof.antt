@@ -66,7 +66,7 @@ use Rattle.points.specs.declared.Point.{Point}
 use Rattle.points.specs.Points.{numbersOf, withPoint}
 use Rattle.points.proofs.Numbers.{one-more}
 use Rattle.points.proofs.TooMany.{copied-answer}
-use Rattle.points.proofs.Callees.{slice, bytes, Count, to-count, goes-count, count-said, Lent, again}
+use Rattle.points.proofs.Callees.{slice, bytes, Counted, Count, to-count, goes-count, count-said, Lent, again}
 use Rattle.points.proofs.Point as T
 use Rattle.points.proofs.Point.Laws as T′
 use Rattle.points.proofs.copied_count as count
@@ -127,7 +127,7 @@ module _ {M : Type 1} (𝓤 : URA M) (H : Heap 𝓤) (A : Atoms 𝓤) (mem : Mem
 
   -- that each callee meets its contract
   abbrev Known : Tables 𝓤 H → Type 1
-  Known 𝓣 = Triple 𝓤 (𝓣 .C #points·copied-count) (Count 𝓤 H A mem run) × (Triple 𝓤 (𝓣 .C #points·with-point) Put × Triple 𝓤 (𝓣 .C #points·test-copied) Test)
+  Known 𝓣 = Triple 𝓤 (𝓣 .C #points·copied-count) (Count 𝓤 H A 65) × (Triple 𝓤 (𝓣 .C #points·with-point) Put × Triple 𝓤 (𝓣 .C #points·test-copied) Test)
 
   -- the call of `with_point`
   abbrev to-put : List ℤ → Val → ℕ → Point → Put .Ghost
@@ -391,10 +391,10 @@ module _ {M : Type 1} (𝓤 : URA M) (H : Heap 𝓤) (A : Atoms 𝓤) (W : Given
         pass1 ! (init ! 16 refl (shr-slice-lawful 𝓤 H A W (named 2) κ₂ T.the-row .typed s (slice s ∷ []) p .0)) $ pass0 ! $
         -- [_11; that it dies; _10; …; _0; that it dies; what there is on entry]
         assigns ! (of-opd ! (load ! (from ! (fld ! refl (stop !))) (look-in ! 16 (sub ! 1 refl (whole !))))) (from ! (stop !)) (init ! 8 refl (tt, record { fits = p .0 .1 .0 })) $
-        use0 W (raw (Count 𝓤 H A mem run .pre (to-count 𝓤 H A mem run n))) (goes-count 𝓤 H A mem run n W (p .0 .1 .0)) $
-        calls-at ! (fmOf 𝓤 H (W .laws) 𝓣) (Count 𝓤 H A mem run) (known .0) (to-count 𝓤 H A mem run n) (and-then ! (load ! (from ! (stop !)) (look ! 9 refl)) (no-more !)) (λ u.
-        use1 W (later (some (λ (r : ℕ). (‵ ftrue ⊛ ‵ (usize .own r (u ∷ []))) ⊛ raw (ensured 𝓤 H A count.ended (count.clauses 𝓤 H A mem run) tt (n, tt) tt r)))) (id⊢ 𝓤 _) $ await ! tt $ pick ! (λ k.
-        split ! $ move ! (1 ∷ []) $ use1 W (raw (fact 𝓤 (k ≡ min n 65))) (count-said 𝓤 H A mem run n k) $ heard ! (k ≡ min n 65) (λ k-is. split ! $ drop ! $
+        use0 W (raw (Count 𝓤 H A 65 .pre (to-count 𝓤 H A 65 n))) (goes-count 𝓤 H A 65 n W (p .0 .1 .0)) $
+        calls-at ! (fmOf 𝓤 H (W .laws) 𝓣) (Count 𝓤 H A 65) (known .0) (to-count 𝓤 H A 65 n) (and-then ! (load ! (from ! (stop !)) (look ! 9 refl)) (no-more !)) (λ u.
+        use1 W (later (some (λ (r : ℕ). (‵ ftrue ⊛ ‵ (usize .own r (u ∷ []))) ⊛ raw (ensured 𝓤 H A count.ended (Counted 𝓤 H A 65) tt (n, tt) tt r)))) (id⊢ 𝓤 _) $ await ! tt $ pick ! (λ k.
+        split ! $ move ! (1 ∷ []) $ use1 W (raw (fact 𝓤 (k ≡ min n 65))) (count-said 𝓤 H A 65 n k) $ heard ! (k ≡ min n 65) (λ k-is. split ! $ drop ! $
         facts ! usize (Is usize) (shows 𝓤 H A usize) k (u ∷ []) (λ is.
         land ! (from ! (stop !)) (init ! 14 refl (uint-lawful 𝓤 H A W w64 .typed k _ is .0)) $ rewrite ! 14 (λ (w : Val). ‵ (fat fullShare word l₄ 0 w)) (ap only (is .0)) refl $
         rest 𝓣 known k k-is l₀ l₁ l₂ l₃ l₄ l₅ l₆ l₇ l₈ l₉ l₁₀ l₁₁))))))))))))))))
@@ -419,7 +419,7 @@ test-points-spec 𝓤 H 𝓜 𝓖 𝓡 =
     entered 𝓤 H (tripleOf 𝓤 H (𝓖 .A) self.signature (self.spec 𝓤 H (𝓖 .A) (𝓜 .mem) (𝓡 .run)))
     (tables 𝓤 H 𝓜 𝓡 code.env .C) (tables 𝓤 H 𝓜 𝓡 code.env .Λ) #points·test-points code.function (code.unfolded 𝓤 H 𝓜 𝓡)
     (meets 𝓤 H (𝓖 .A) (givenOf 𝓤 H 𝓜 𝓖) (𝓜 .mem) (𝓡 .run) (tablesOf 𝓤 H 𝓜 (tables 𝓤 H 𝓜 𝓡 code.env)) (
-      cited 𝓤 H (Count 𝓤 H (𝓖 .A) (𝓜 .mem) (𝓡 .run)) 𝓜 𝓡 code.env #points·copied-count count-def.routine code.calls-points·copied-count (count-thm.met 𝓤 H 𝓜 𝓖 𝓡),
+      cited 𝓤 H (Count 𝓤 H (𝓖 .A) 65) 𝓜 𝓡 code.env #points·copied-count count-def.routine code.calls-points·copied-count (count-thm.met 𝓤 H 𝓜 𝓖 𝓡),
       (
         cited 𝓤 H (Put 𝓤 H (𝓖 .A) (𝓜 .mem) (𝓡 .run)) 𝓜 𝓡 code.env #points·with-point put-def.routine code.calls-points·with-point (put-thm.met 𝓤 H 𝓜 𝓖 𝓡),
         cited 𝓤 H (Test 𝓤 H (𝓖 .A) (𝓜 .mem) (𝓡 .run)) 𝓜 𝓡 code.env #points·test-copied test-def.routine code.calls-points·test-copied (test-thm.met 𝓤 H 𝓜 𝓖 𝓡),
