@@ -1,7 +1,7 @@
 // The map of a grid's cells (an occupancy grid), one bit a cell, in bytes that the caller lends.
 ghost use mathlib.Core.Path.{_≡_};
 ghost use mathlib.Core.List.{_++_};
-ghost use Prim.Native.Nat.{_+_, _*_, _/_, _<_, _≤_, _^_};
+ghost use Prim.Native.Nat.{_+_, _*_, _/_, _<_, _≤_, _^_, min};
 ghost use lib.ListN.{length, drop, replicate};
 ghost use Rattle.grid.specs.Cells.{cellNumber};
 ghost use Rattle.grid.specs.Map.{mapLength, isFilled, NextFilled, withFilled, countBelow};
@@ -54,7 +54,7 @@ pub fn next_filled(map: &[u8], first: usize, end: usize) -> usize
 // The first cell behind the byte of cell n, or `end`.
 pub fn byte_end(n: usize, end: usize) -> usize
     requires { ⌜ n < end ⌝ }
-    ensures { λ r. ⌜ (n < r) × (r ≤ end) × (r ≤ n / 8 * 8 + 8) ⌝ }
+    ensures { λ r. ⌜ r ≡ min (n / 8 * 8 + 8) end ⌝ }
 {
     let first = n / 8 * 8;
     if end - first < 8 {

@@ -37,8 +37,8 @@ loop-again c =
     let l = c .before .before .before .before in
     let a = l .before .before .args in
     let e = c .byte-end .ensures in (
-      omega (arith, l .loop .inv .0, e),
-      e .1,
+      omega (arith, l .loop .inv .0, c .before .before .before .loop-test .taken, e),
+      omega (arith, e),
       further (a .map .now) (a .first) (l .loop .n) (c .byte-end .result) (l .loop .inv .2)
           (λ m h u. empty-cell (a .map .now) (l .loop .n) m (c .before .if1 .taken) h (omega (arith, u, e))),
     )

@@ -13,9 +13,9 @@ returns c =
     let a = s .args in
     let next = c .byte-end .result in
     let e = c .byte-end .ensures in (
-      advance-skip (cellLine (isFilled (a .map .now)) (a .nx) (a .ny)) (a .all) (a .cell) (a .at) next (a .out .now) (omega (arith, e)) (e .1) (s .pre .2)
-          (empty-byte (a .map .now) (a .nx) (a .ny) (a .cell) next (c .before .if1 .taken) (e .2)),
-      e .0,
+      advance-skip (cellLine (isFilled (a .map .now)) (a .nx) (a .ny)) (a .all) (a .cell) (a .at) next (a .out .now) (omega (arith, e)) (omega (arith, e)) (s .pre .2)
+          (empty-byte (a .map .now) (a .nx) (a .ny) (a .cell) next (c .before .if1 .taken) (omega (arith, e))),
+      omega (arith, e),
     )
 
 returns-2 : tie.Need-returns-2
