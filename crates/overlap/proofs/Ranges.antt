@@ -1,9 +1,13 @@
 -- A range of cells on an axis, from two quotients that are rounded down. With a cell's edge e > 0 and i cells before it,
 --     least ≤ o + i·e + e   says that  −i ≤ ⌊(o + e − least) / e⌋,   and   o + i·e ≤ greatest   says that  i ≤ ⌊(greatest − o) / e⌋.
-use mathlib.Core.Path.{_≡_, refl, sym}
-use mathlib.Core.Bool.{Bool, true, false, _&&_, and-eq-true-iff}
+--     picks        the range that the code computes is the one asked for
+--     picks-one    no other range is
+use mathlib.Core.Path.{_≡_, refl, sym, ap, ap₂, _∙_}
+use mathlib.Core.Bool.{Bool, true, false, _&&_, and-false, and-eq-true-iff}
 use mathlib.Core.List.{List, [], _∷_}
 use Prim.Native.Nat.{ℕ, _<_, _≤_}
+use native.Mathlib.Decide.{decLt}
+use native.Mathlib.Omega.{arith}
 use borrow.Author.Tests.{ltb-true, leb-true, lt-ltb, le-leb}
 use lib.Dec.{leb, ltb}
 use lib.IntN.{ℤ, pos, negℤ, _+ℤ_, _-ℤ_, _*ℤ_}
@@ -14,13 +18,19 @@ use Rattle.integers.proofs.Expr.{Expr, var, neg, _⊕_, _⊖_, _⊗_}
 use Rattle.integers.proofs.Certificates.{le, by-le}
 use Rattle.integers.proofs.Quotients.{≤-floor, floor-≤}
 use Rattle.integers.proofs.MinMax.{min!, max! }
-use Rattle.overlap.specs.Range.{Picks, touches}
+use Rattle.overlap.specs.declared.CellRange.{CellRange}
+use Rattle.overlap.specs.Range.{Picks, endsFrom, beginsBy}
 
 -- two tests that hold together are one
 same : (a b : Bool) → (a ≡ true → b ≡ true) → (b ≡ true → a ≡ true) → a ≡ b
 same true b f g = sym (f refl)
 same false true f g = g refl
 same false false f g = refl
+
+-- the same second test, and where it holds the same first one
+both : (a b c d : Bool) → (b ≡ true → a ≡ c) → b ≡ d → (a && b) ≡ (c && d)
+both a true c d f e = ap₂ _&&_ (f refl) e
+both a false c d f e = and-false a ∙ sym (and-false c) ∙ ap (λ (t : Bool). c && t) e
 
 -- the number of a cell, the axis's origin, a cell's edge, and the ends of the box
 abbrev I : Expr
@@ -65,37 +75,58 @@ module _ (least greatest o e : ℤ) (positive : pos 0 <ℤ e) where
   module _ (n : ℕ) {p q : ℤ} {first end : ℕ} (before : Floor (o +ℤ e -ℤ least) e p) (last : Floor (greatest -ℤ o) e q)
       (end-is : pos end ≡ maxℤ (pos 0) (minℤ (q +ℤ pos 1) (pos n)))
       (first-is : pos first ≡ minℤ (maxℤ (pos 0) (negℤ p)) (pos end)) where
-    in-range : (i : ℕ) → first ≤ i → i < end → (negℤ p ≤ℤ pos i) × (pos i ≤ℤ q)
-    in-range i a b = (
-      omega (zarith, min! (maxℤ (pos 0) (negℤ p)) (pos end), max! (pos 0) (negℤ p)),
-      omega (zarith, max! (pos 0) (minℤ (q +ℤ pos 1) (pos n)), min! (q +ℤ pos 1) (pos n), +! q (pos 1)),
-    )
+    -- the cells below the end
+    upto : (i : ℕ) → i < n → ltb i end ≡ beginsBy greatest o e i
+    upto i h =
+        same (ltb i end) (beginsBy greatest o e i)
+        (λ t. true-le _ _ (→high last i (omega (zarith, ltb-true i end t, max! (pos 0) (minℤ (q +ℤ pos 1) (pos n)), min! (q +ℤ pos 1) (pos n), +! q (pos 1)))))
+        (λ t.
+        let l = high→ last i (le-true _ _ t) in
+        lt-ltb i end (omega (zarith, max! (pos 0) (minℤ (q +ℤ pos 1) (pos n)), min! (q +ℤ pos 1) (pos n), +! q (pos 1))))
 
-    range-in : (i : ℕ) → i < n → negℤ p ≤ℤ pos i → pos i ≤ℤ q → (first ≤ i) × (i < end)
-    range-in i h a b = (
-      omega (zarith, min! (maxℤ (pos 0) (negℤ p)) (pos end), max! (pos 0) (negℤ p)),
-      omega (zarith, max! (pos 0) (minℤ (q +ℤ pos 1) (pos n)), min! (q +ℤ pos 1) (pos n), +! q (pos 1)),
-    )
+    -- of these, the cells from the first on
+    from : (i : ℕ) → i < end → leb first i ≡ endsFrom least o e i
+    from i h =
+        same (leb first i) (endsFrom least o e i)
+        (λ t. true-le _ _ (→low before i (omega (zarith, leb-true first i t, min! (maxℤ (pos 0) (negℤ p)) (pos end), max! (pos 0) (negℤ p)))))
+        (λ t. let l = low→ before i (le-true _ _ t) in le-leb first i (omega (zarith, min! (maxℤ (pos 0) (negℤ p)) (pos end), max! (pos 0) (negℤ p))))
 
-    exact : (i : ℕ) → i < n → (leb first i && ltb i end) ≡ touches least greatest o e i
-    exact i h = same (leb first i && ltb i end) (touches least greatest o e i) there here
-      where
-        there : (leb first i && ltb i end) ≡ true → touches least greatest o e i ≡ true
-        there t =
-            let (a, b) = and-eq-true-iff (leb first i) (ltb i end) .0 t in
-            let (x, y) = in-range i (leb-true first i a) (ltb-true i end b) in
-            and-eq-true-iff (leZ least (o +ℤ pos i *ℤ e +ℤ e)) (leZ (o +ℤ pos i *ℤ e) greatest) .1
-            (true-le _ _ (→low before i x), true-le _ _ (→high last i y))
-
-        here : touches least greatest o e i ≡ true → (leb first i && ltb i end) ≡ true
-        here t =
-            let (a, b) = and-eq-true-iff (leZ least (o +ℤ pos i *ℤ e +ℤ e)) (leZ (o +ℤ pos i *ℤ e) greatest) .0 t in
-            let (x, y) = range-in i h (low→ before i (le-true _ _ a)) (high→ last i (le-true _ _ b)) in
-            and-eq-true-iff (leb first i) (ltb i end) .1 (le-leb first i x, lt-ltb i end y)
-
-    pub picks : Picks n (touches least greatest o e) (record { first = first; end = end })
+    pub picks : Picks n (endsFrom least o e) (beginsBy greatest o e) (record { first = first; end = end })
     picks = record {
       ordered = omega (zarith, min! (maxℤ (pos 0) (negℤ p)) (pos end));
       within = omega (zarith, max! (pos 0) (minℤ (q +ℤ pos 1) (pos n)), min! (q +ℤ pos 1) (pos n));
-      exact = exact;
+      upto = upto;
+      exact = λ i h. both (leb first i) (ltb i end) _ _ (λ t. from i (ltb-true i end t)) (upto i h);
     }
+
+-- ---- one range
+module _ {n : ℕ} {P Q : ℕ → Bool} where
+  end-le : {r s : CellRange} → Picks n P Q r → Picks n P Q s → s .end ≤ r .end
+  end-le {r} {s} p q = go (decLt (r .end) (s .end))
+    where
+      go : Dec (r .end < s .end) → s .end ≤ r .end
+      go (yes l) =
+          let i = r .end in
+          let h : i < n = omega (arith, q .within) in
+          absurd (omega (arith, ltb-true i i (p .upto i h ∙ sym (q .upto i h) ∙ lt-ltb i (s .end) l)))
+      go (no l) = omega arith
+
+  first-le : {r s : CellRange} → Picks n P Q r → Picks n P Q s → s .first ≤ r .first
+  first-le {r} {s} p q = go (decLt (r .first) (s .first))
+    where
+      go : Dec (r .first < s .first) → s .first ≤ r .first
+      go (yes l) =
+          let i = r .first in
+          let e : i < r .end = omega (arith, q .ordered, end-le p q) in
+          let h : i < n = omega (arith, p .within) in
+          let here = and-eq-true-iff (leb i i) (ltb i (r .end)) .1 (le-leb i i (omega arith), lt-ltb i (r .end) e) in
+          let (t, _) = and-eq-true-iff (leb (s .first) i) (ltb i (s .end)) .0 (q .exact i h ∙ sym (p .exact i h) ∙ here) in
+          absurd (omega (arith, leb-true (s .first) i t))
+      go (no l) = omega arith
+
+  -- `Picks` fixes the range, an empty one too.
+  pub picks-one : {r s : CellRange} → Picks n P Q r → Picks n P Q s → r ≡ s
+  picks-one {r} {s} p q =
+      let f : r .first ≡ s .first = omega (arith, first-le p q, first-le q p) in
+      let e : r .end ≡ s .end = omega (arith, end-le p q, end-le q p) in
+      λ l. record { first = f l; end = e l }

@@ -27,9 +27,15 @@ least3 a t = minℤ (minℤ (a (t .v0)) (a (t .v1))) (a (t .v2))
 abbrev pub greatest3 : Axis → Triangle → ℤ
 greatest3 a t = maxℤ (maxℤ (a (t .v0)) (a (t .v1))) (a (t .v2))
 
--- On an axis, the least corner value is at most p + d, and the greatest at least p.
+-- On an axis, the least corner value is at most p + d; the greatest is at least p; both.
+abbrev pub leastHolds : Triangle → (p d : Point) → Axis → Bool
+leastHolds t p d a = leZ (least3 a t) (a p +ℤ a d)
+
+abbrev pub greatestHolds : Triangle → (p : Point) → Axis → Bool
+greatestHolds t p a = leZ (a p) (greatest3 a t)
+
 abbrev pub boxHolds : Triangle → (p d : Point) → Axis → Bool
-boxHolds t p d a = leZ (least3 a t) (a p +ℤ a d) && leZ (a p) (greatest3 a t)
+boxHolds t p d a = leastHolds t p d a && greatestHolds t p a
 
 -- ---- plane
 -- A side of the box on an axis, and the box's corner on a side of each axis.

@@ -17,7 +17,7 @@ ghost use Rattle.overlap.specs.Setup.{pointOf, triangleOf, component, pl
 ghost use Rattle.overlap.specs.Block.{farEnd, farValue, planeTest, formTest, edgeTest, edgesTest, blockTest};
 ghost use Rattle.overlap.specs.Lent.{formList, edgeFrom, edgesFrom, planeFrom, setupFrom, setupAt, planeValue, PlaneNumbers, FormsFor, cellsX, cellsY};
 ghost use Rattle.overlap.specs.Cut.{spares, edgeHalf, edgesHalf, planeHalf, cutEdges, CutForms, Rules, RuledOut, EdgesPass, CutPasses};
-ghost use Rattle.overlap.specs.Range.{Picks, touches, gridOf, PicksBox};
+ghost use Rattle.overlap.specs.Range.{Picks, endsFrom, beginsBy, gridOf, PicksBox};
 
 // A point, or a vector.
 pub struct Vector {
@@ -695,10 +695,11 @@ pub fn rows_may_overlap(forms: &[i64; 34], ly: usize, hy: usize, lz: usize, hz: 
     edges_test(forms, 11, 12, 13, y0, y1, z0, z1)
 }
 
-// The cells of an axis that the closed range from `least` to `greatest` touches.
+// The cells of an axis that the closed range from `least` to `greatest` touches. Where it touches none, the range is
+// empty, behind the cells that begin at or before `greatest`.
 pub fn cell_range(least: i64, greatest: i64, origin: i64, edge: i64, cells: usize) -> CellRange
     requires { ⌜ Withins rangeBounds (least ∷ greatest ∷ origin ∷ edge ∷ []) × (pos 0 <ℤ edge) × (cells < 2 ^ 63) ⌝ }
-    ensures { λ r. ⌜ Picks cells (touches least greatest origin edge) r ⌝ }
+    ensures { λ r. ⌜ Picks cells (endsFrom least origin edge) (beginsBy greatest origin edge) r ⌝ }
 {
     let n = integers::from_index(cells);
     let before = integers::floor_div(origin + edge - least, edge);
@@ -714,7 +715,7 @@ pub fn cell_range(least: i64, greatest: i64, origin: i64, edge: i64, cells: usiz
 // The range of cells on an axis for the three corners' coordinates there.
 fn axis_range(a0: i64, a1: i64, a2: i64, origin: i64, edge: i64, cells: usize) -> CellRange
     requires { ⌜ Withins axisBounds (a0 ∷ a1 ∷ a2 ∷ origin ∷ edge ∷ []) × (pos 0 <ℤ edge) × (cells < 2 ^ 63) ⌝ }
-    ensures { λ r. ⌜ Picks cells (touches (minℤ (minℤ a0 a1) a2) (maxℤ (maxℤ a0 a1) a2) origin edge) r ⌝ }
+    ensures { λ r. ⌜ Picks cells (endsFrom (minℤ (minℤ a0 a1) a2) origin edge) (beginsBy (maxℤ (maxℤ a0 a1) a2) origin edge) r ⌝ }
 {
     let least = integers::min(integers::min(a0, a1), a2);
     let greatest = integers::max(integers::max(a0, a1), a2);

@@ -12,7 +12,7 @@ use Rattle.integers.proofs.Machine.{back, bounded, learnt, asked, run}
 use Rattle.integers.proofs.MinMax.{within-min, within-max}
 use Rattle.overlap.specs.declared.CellRange.{CellRange}
 use Rattle.overlap.specs.Bounds.{rangeBounds, axisBounds}
-use Rattle.overlap.specs.Range.{Picks, touches}
+use Rattle.overlap.specs.Range.{Picks, endsFrom, beginsBy}
 use Rattle.overlap.proofs.axis_range.Statement.{statement}
 use Rattle.overlap.proofs.axis_range.Tie as tie
 
@@ -51,7 +51,7 @@ abbrev es : List Expr
 es = var 0 ∷ var 1 ∷ var 2 ∷ var 3 ∷ []
 
 abbrev Picked : ℕ → CellRange → List ℤ → Type 0
-Picked n r l = Picks n (touches (nth l 0) (nth l 1) (nth l 2) (nth l 3)) r
+Picked n r l = Picks n (endsFrom (nth l 0) (nth l 2) (nth l 3)) (beginsBy (nth l 1) (nth l 2) (nth l 3)) r
 
 returns : tie.Need-returns
 returns c =

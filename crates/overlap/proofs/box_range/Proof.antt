@@ -11,7 +11,7 @@ use Rattle.overlap.specs.declared.CellRange.{CellRange}
 use Rattle.overlap.specs.Geometry.{Axis, xOf, yOf, zOf}
 use Rattle.overlap.specs.Bounds.{axisBounds}
 use Rattle.overlap.specs.Setup.{pointOf}
-use Rattle.overlap.specs.Range.{Picks, touches}
+use Rattle.overlap.specs.Range.{Picks, endsFrom, beginsBy}
 use Rattle.overlap.proofs.box_range.Statement.{statement}
 use Rattle.overlap.proofs.box_range.Tie as tie
 
@@ -39,7 +39,8 @@ required : (l : List ℤ) (n : ℕ) → Withins axisBounds l → pos 0 <ℤ nth 
 required l n h k m = (bounded l es axisBounds axisBounds tt h, asked l (λ a. pos 0 <ℤ nth a 4) es axisBounds tt h k, m)
 
 abbrev Picked : ℕ → CellRange → List ℤ → Type 0
-Picked n r l = Picks n (touches (minℤ (minℤ (nth l 0) (nth l 1)) (nth l 2)) (maxℤ (maxℤ (nth l 0) (nth l 1)) (nth l 2)) (nth l 3) (nth l 4)) r
+Picked n r l =
+    Picks n (endsFrom (minℤ (minℤ (nth l 0) (nth l 1)) (nth l 2)) (nth l 3) (nth l 4)) (beginsBy (maxℤ (maxℤ (nth l 0) (nth l 1)) (nth l 2)) (nth l 3) (nth l 4)) r
 
 -- each place, from the one behind it
 abbrev at0 : tie.After-axis-range → tie.Start
