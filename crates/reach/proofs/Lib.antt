@@ -17,3 +17,5 @@ pub mod Theorem
 -- Legs, cells of a grid.
 pub mod Legs
 pub mod Grid
+-- Points in common.
+pub mod Common
