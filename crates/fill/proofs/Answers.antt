@@ -1,5 +1,6 @@
 -- What a fill answers and leaves, from its parts.
---     fill-refused, -short, -passed   the verdict on questions 1 to 8
+--     left-refused, -given            the bytes that are left, by what the fill says
+--     fill-refused, -short, -passed   what it says and leaves, by the questions
 --     fill-bytes                      the bytes that are left are the map of the file, with the bytes behind it as they were
 --     fill-count                      the count is that of the filled cells
 -- Assumes nothing.
@@ -9,43 +10,65 @@ use mathlib.Core.Path.{_≡_, ap, _∙_}
 use Prim.Native.Nat.{ℕ, _*_, _<_, _≤_}
 use native.Mathlib.Omega.{arith}
 use borrow.Author.Tests.{le-leb, lt-leb, lt-ltb, le-ltb}
-use lib.Dec.{leb, ltb}
+use lib.Dec.{ltb}
 use lib.ListN.{length, drop, replicate}
 use Rattle.frame.specs.declared.Header.{Header}
-use Rattle.frame.specs.declared.Limit.{Limit}
-use Rattle.frame.specs.declared.Limit.the-variants.{ShortMap}
-use Rattle.frame.specs.declared.Verdict.the-variants.{Passed, Broken}
-use Rattle.frame.specs.declared.Checked.the-variants.{Accepted, Refused}
 use Rattle.frame.specs.Fields.{headerOf}
 use Rattle.frame.specs.Layout.{version1}
-use Rattle.frame.specs.Questions.{_otherwise_, firstBroken, fileQuestions, checked}
-use Rattle.frame.proofs.Accepted.{accepted, questions-broken, questions-passed}
-use Rattle.frame.proofs.Asking.{andThen, first-append, stopped}
+use Rattle.frame.specs.Limit.{gives, refused}
+use Rattle.frame.specs.Questions.{asked, answered, fileQuestions, checked}
+use Rattle.frame.proofs.Accepted.{questions-refused, questions-passed, header-is}
+use Rattle.frame.proofs.Asking.{andThen, first-append, stopped, through}
 use Rattle.grid.specs.Map.{mapLength, isFilled, countBelow, mapOf}
 use Rattle.grid.proofs.Counts.{count-same}
 use Rattle.grid.proofs.Maps.{Bytes, map-is, length-cleared, cleared-in, cleared-behind}
-use Rattle.fill.specs.Steel.{cellCount, fillVerdict}
+use Rattle.fill.specs.Steel.{gridAt, cellCount, steel, filledBy, mapQuestion, fillQuestions, filling, filledBytes}
 use Rattle.fill.specs.Block.{Adds}
 
--- ---- the verdict
-module _ (s : List ℕ) (len : ℕ) where
-  verdict : fillVerdict s len
-      ≡ andThen (firstBroken (fileQuestions version1 (headerOf version1 s) s)) (firstBroken ((leb (mapLength (cellCount (headerOf version1 s))) len otherwise ShortMap) ∷ []))
-  verdict = first-append (fileQuestions version1 (headerOf version1 s) s) ((leb (mapLength (cellCount (headerOf version1 s))) len otherwise ShortMap) ∷ [])
+-- ---- questions 1 to 8, of a call that gives x
+module _ {A : Type 0} (x : A) (s : List ℕ) (len : ℕ) where
+  abbrev h₀ : Header
+  h₀ = headerOf version1 s
 
-  pub fill-refused : (l : Limit) → checked s ≡ Refused l → fillVerdict s len ≡ Broken l
-  fill-refused l e = verdict ∙ rw (questions-broken s l e)
+  in-turn : answered (fillQuestions s h₀ len) x ≡ andThen (asked (fileQuestions version1 h₀ s)) (answered (mapQuestion h₀ len ∷ []) x)
+  in-turn = first-append x (fileQuestions version1 h₀ s) (mapQuestion h₀ len ∷ [])
 
-  module _ (h : Header) (e : checked s ≡ Accepted h) where
-    room : firstBroken ((leb (mapLength (cellCount (headerOf version1 s))) len otherwise ShortMap) ∷ []) ≡ firstBroken ((leb (mapLength (cellCount h)) len otherwise ShortMap) ∷ [])
-    room = ap (λ (x : Header). firstBroken ((leb (mapLength (cellCount x)) len otherwise ShortMap) ∷ [])) (accepted s h e .header)
+  file-refused : {n p : ℕ} → checked s ≡ refused n p → answered (fillQuestions s h₀ len) x ≡ refused n p
+  file-refused e = in-turn ∙ rw (questions-refused s e)
 
-    pub fill-short : len < mapLength (cellCount h) → fillVerdict s len ≡ Broken ShortMap
-    fill-short l = verdict ∙ rw (questions-passed s h e, room) (stopped _ _ (lt-leb _ _ l))
+  map-asked : (h : Header) → checked s ≡ gives h → answered (fillQuestions s h₀ len) x ≡ answered (mapQuestion h len ∷ []) x
+  map-asked h e = in-turn ∙ rw (questions-passed s h e) (ap (λ (y : Header). answered (mapQuestion y len ∷ []) x) (header-is s h e))
 
-    pub fill-passed : mapLength (cellCount h) ≤ len → fillVerdict s len ≡ Passed
-    unfolding firstBroken
-    fill-passed l = verdict ∙ rw (questions-passed s h e, room, le-leb (mapLength (cellCount h)) len l)
+-- ---- what a fill says and leaves
+module _ (s m : List ℕ) where
+  abbrev count : Header → ℕ
+  count h = countBelow (filledBy (gridAt h) (steel s h)) (cellCount h)
+
+  abbrev new : Header → List ℕ
+  new h = mapOf (filledBy (gridAt h) (steel s h)) (cellCount h) ++ drop (mapLength (cellCount h)) m
+
+  pub left-refused : {n p : ℕ} → filling s m ≡ refused n p → filledBytes s m ≡ m
+  unfolding filledBytes
+  left-refused e = rw e
+
+  pub left-given : {n : ℕ} → filling s m ≡ gives n → filledBytes s m ≡ new (headerOf version1 s)
+  unfolding filledBytes
+  left-given e = rw e
+
+  pub fill-refused : {n p : ℕ} → checked s ≡ refused n p → (filling s m ≡ refused n p) × (filledBytes s m ≡ m)
+  unfolding filling
+  fill-refused c = let e = file-refused (count (headerOf version1 s)) s (length m) c in (e, left-refused e)
+
+  module _ (h : Header) (c : checked s ≡ gives h) where
+    pub fill-short : length m < mapLength (cellCount h) → (filling s m ≡ refused 8 0) × (filledBytes s m ≡ m)
+    unfolding filling
+    fill-short l = let e = map-asked (count (headerOf version1 s)) s (length m) h c ∙ stopped _ _ [] (lt-leb _ _ l) in (e, left-refused e)
+
+    pub fill-passed : mapLength (cellCount h) ≤ length m → (filling s m ≡ gives (count h)) × (filledBytes s m ≡ new h)
+    unfolding filling answered
+    fill-passed l =
+        let e = map-asked (count (headerOf version1 s)) s (length m) h c ∙ through _ _ [] (le-leb _ _ l) in
+        (e ∙ ap (λ (y : Header). gives (count y)) (header-is s h c), left-given e ∙ ap new (header-is s h c))
 
 -- ---- the map: cells are added to an emptied one
 module _ (p : ℕ → Bool) (cells : ℕ) (old new : List ℕ) (room : mapLength cells ≤ length old)

@@ -2,25 +2,23 @@
 --     ready-grid          the grid, for a map that is long enough
 --     triangle-bounded    a record's triangle
 -- Assumes nothing.
-use mathlib.Core.List.{List, [], _∷_}
+use mathlib.Core.List.{List}
 use mathlib.Core.Path.{_≡_, sym, ap, subst}
 use Prim.Native.Nat.{ℕ, _<_, _≤_}
 use native.Mathlib.Omega.{arith}
-use lib.IntN.{ℤ, pos, negsuc, _+ℤ_, _*ℤ_}
+use lib.IntN.{ℤ, pos, negsuc}
 use lib.Signed.{_≤ℤ_}
 use Rattle.integers.specs.Within.{Within}
 use Rattle.integers.proofs.Bounds.{within-of}
-use Rattle.integers.proofs.Certificates.{nn, le, _⊞_, _⊠_, by-le}
-use Rattle.integers.proofs.Expr.{var, num, _⊕_, _⊗_}
-use Rattle.integers.proofs.Laws.{nn-pos, pos-le, ≤-trans, ≤1→<}
+use Rattle.integers.proofs.Certificates.{le}
+use Rattle.integers.proofs.Laws.{≤-trans, ≤1→<}
 use Rattle.frame.specs.declared.Header.{Header}
 use Rattle.frame.specs.declared.Position.{Position}
 use Rattle.frame.specs.Layout.{version1}
 use Rattle.frame.specs.Fields as fields
-use Rattle.frame.proofs.Accepted.{PositionRange, AxisRange, AcceptedFile, triangle-range}
+use Rattle.frame.proofs.Accepted.{PositionRange, AcceptedFile, triangle-range}
 use Rattle.overlap.specs.Bounds.{coordinateMax, BoundedPoint, BoundedTriangle}
 use Rattle.overlap.specs.Grid as overlap
-use Rattle.overlap.specs.Grid.{cellCorner}
 use Rattle.grid.specs.Map.{mapLength}
 use Rattle.fill.specs.declared.Grid.{Grid}
 use Rattle.fill.specs.Steel.{pointAt, triangleAt, gridAt, cellCount}

@@ -5,14 +5,12 @@ use Prim.Native.Nat.{ℕ, _*_}
 use lib.Dec.{leb}
 use lib.ListN.{length, drop}
 use Rattle.frame.specs.declared.Header.{Header}
-use Rattle.frame.specs.declared.Limit.the-variants.{ShortMap}
 use Rattle.frame.specs.declared.Position.{Position}
 use Rattle.frame.specs.declared.Triangle.{Triangle}
-use Rattle.frame.specs.declared.Verdict.{Verdict}
-use Rattle.frame.specs.declared.Verdict.the-variants.{Passed, Broken}
 use Rattle.frame.specs.Layout.{version1}
 use Rattle.frame.specs.Fields.{headerOf, triangleOf, fromRecord}
-use Rattle.frame.specs.Questions.{Question, _otherwise_, firstBroken, fileQuestions}
+use Rattle.frame.specs.Limit.{Answer, gives, refused, saidLimit}
+use Rattle.frame.specs.Questions.{Question, _asks_, answered, fileQuestions}
 use Rattle.overlap.specs.Geometry as geometry
 use Rattle.overlap.specs.Geometry.{Point, point}
 use Rattle.overlap.specs.Grid.{Grid, cellCorner}
@@ -56,29 +54,32 @@ abbrev pub filledBy : Grid → List geometry.Triangle → ℕ → Bool
 filledBy g ts n = anyOf (fillsCell g n) ts
 
 -- ---- the answer, and the bytes afterwards
+-- Question 8: is the map buffer, of len bytes, at least as long as the map?
+abbrev pub mapQuestion : Header → ℕ → Question
+mapQuestion h len = 8 asks leb (mapLength (cellCount h)) len
+
 -- Questions 1 to 8, in turn, of a file s and a buffer of len bytes.
 abbrev pub fillQuestions : List ℕ → Header → ℕ → List Question
-fillQuestions s h len = fileQuestions version1 h s ++ ((leb (mapLength (cellCount h)) len otherwise ShortMap) ∷ [])
+fillQuestions s h len = fileQuestions version1 h s ++ (mapQuestion h len ∷ [])
 
-abbrev pub fillVerdict : List ℕ → ℕ → Verdict
-fillVerdict s len = firstBroken (fillQuestions s (headerOf version1 s) len)
-
--- The number of filled cells, or the first limit broken.
-abbrev pub fillAnswer : Verdict → ℕ → Filling
-fillAnswer Passed n = Filled n
-fillAnswer (Broken l) n = Refused l
-
-unfoldable pub filling : (file map : List ℕ) → Filling
+-- A fill gives the number of filled cells.
+unfoldable pub filling : (file map : List ℕ) → Answer ℕ
 filling s m =
     let h = headerOf version1 s in
-    fillAnswer (fillVerdict s (length m)) (countBelow (filledBy (gridAt h) (steel s h)) (cellCount h))
+    answered (fillQuestions s h (length m)) (countBelow (filledBy (gridAt h) (steel s h)) (cellCount h))
 
--- The map of the file with the bytes behind it as they were; after a refusal, all bytes as they were.
-abbrev pub fillBytes : Verdict → (new old : List ℕ) → List ℕ
-fillBytes Passed new old = new
-fillBytes (Broken l) new old = old
+-- Bytes that a call replaces. After a refusal they are what they were.
+abbrev pub unlessRefused : {A : Type 0} → Answer A → (new old : List ℕ) → List ℕ
+unlessRefused (gives a) new old = new
+unlessRefused (refused n p) new old = old
 
+-- The fill replaces the map by that of the file. The bytes behind it are what they were.
 unfoldable pub filledBytes : (file map : List ℕ) → List ℕ
 filledBytes s m =
     let h = headerOf version1 s in
-    fillBytes (fillVerdict s (length m)) (mapOf (filledBy (gridAt h) (steel s h)) (cellCount h) ++ drop (mapLength (cellCount h)) m) m
+    unlessRefused (filling s m) (mapOf (filledBy (gridAt h) (steel s h)) (cellCount h) ++ drop (mapLength (cellCount h)) m) m
+
+-- ---- what each case of the code's enum says
+abbrev pub saidFilling : Filling → Answer ℕ
+saidFilling (Filled n) = gives n
+saidFilling (Refused l) = saidLimit l

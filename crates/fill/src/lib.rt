@@ -12,12 +12,12 @@ ghost use mathlib.Core.Bool.{true};
 ghost use Prim.Native.Nat.{_*_, _<_, _≤_};
 ghost use lib.ListN.{length};
 ghost use Rattle.frame.specs.Questions.{checked};
-ghost use Rattle.frame.specs.declared.Checked.the-variants.{Accepted};
+ghost use Rattle.frame.specs.Limit.{gives};
 ghost use Rattle.overlap.specs.Bounds.{BoundedSetup, BoundedTriangle};
 ghost use Rattle.overlap.specs.Lent.{setupAt};
 ghost use Rattle.overlap.specs.Setup.{pointOf};
 ghost use Rattle.grid.specs.Map.{mapLength};
-ghost use Rattle.fill.specs.Steel.{pointAt, triangleAt, gridAt, cellCount, steel, filling, filledBytes};
+ghost use Rattle.fill.specs.Steel.{pointAt, triangleAt, gridAt, cellCount, steel, filling, filledBytes, saidFilling};
 ghost use Rattle.fill.specs.Block.{gridOf, blockOf, sizeOf, Emptiness, NonEmpty, Room, blockMay, CutReady, CutInTwo, Fills, AddsTriangle, AddsSteel, ReadyGrid};
 
 // What a fill answers: the number of filled cells, or the first limit broken.
@@ -52,7 +52,7 @@ struct Halves {
 
 // Puts questions 1 to 8, then replaces the map by the map of the file, and counts its filled cells.
 pub fn fill(file: &[u8], map: &mut [u8]) -> Filling
-    ensures { λ r. ⌜ (r ≡ filling (now (file .entry)) (now (map .entry))) × (now (map .exit) ≡ filledBytes (now (file .entry)) (now (map .entry))) ⌝ }
+    ensures { λ r. ⌜ (saidFilling r ≡ filling (now (file .entry)) (now (map .entry))) × (now (map .exit) ≡ filledBytes (now (file .entry)) (now (map .entry))) ⌝ }
 {
     match frame::check(file) {
         Checked::Refused(limit) => Filling::Refused(limit),
@@ -62,8 +62,8 @@ pub fn fill(file: &[u8], map: &mut [u8]) -> Filling
 
 // Question 8, then the fill itself.
 fn fill_accepted(file: &[u8], header: Header, map: &mut [u8]) -> Filling
-    requires { ⌜ checked (now file) ≡ Accepted header ⌝ }
-    ensures { λ r. ⌜ (r ≡ filling (now (file .entry)) (now (map .entry))) × (now (map .exit) ≡ filledBytes (now (file .entry)) (now (map .entry))) ⌝ }
+    requires { ⌜ checked (now file) ≡ gives header ⌝ }
+    ensures { λ r. ⌜ (saidFilling r ≡ filling (now (file .entry)) (now (map .entry))) × (now (map .exit) ≡ filledBytes (now (file .entry)) (now (map .entry))) ⌝ }
 {
     let cells = header.cells;
     let n = cell_count(cells);
@@ -87,7 +87,7 @@ pub fn cell_count(cells: Cells) -> usize
 
 // Fills the cells of each triangle in turn.
 fn fill_triangles(file: &[u8], header: Header, map: &mut [u8])
-    requires { ⌜ (checked (now file) ≡ Accepted header) × (mapLength (cellCount header) ≤ length (now map)) ⌝ }
+    requires { ⌜ (checked (now file) ≡ gives header) × (mapLength (cellCount header) ≤ length (now map)) ⌝ }
     ensures { λ _. ⌜ AddsSteel header (steel (now (file .entry)) header) (now (map .entry)) (now (map .exit)) ⌝ }
 {
     let layout = frame::version_1();

@@ -1,13 +1,14 @@
 -- What holds of an accepted file.
 --     checked-by     the check's answer, by its two parts
---     questions-broken, -passed   what the answer says of the questions
+--     questions-refused, -passed   what the check's answer says of questions 1 to 7
+--     reading-refused, -accepted   a plain reading's answer, by the check's
 --     accepted       questions 1 to 7 as facts, and the ranges of the header's values
 --     triangle-range the ranges of a record's corners
 --     map-most       the length of the map
 -- Assumes nothing.
 use mathlib.Core.Bool.{Bool, true, false, _&&_}
 use mathlib.Core.List.{List}
-use mathlib.Core.Path.{_≡_, refl, sym, _∙_}
+use mathlib.Core.Path.{_≡_, refl, sym, ap, _∙_}
 use Prim.Native.Nat.{ℕ, _+_, _*_, _/_, _<_, _≤_}
 use native.Mathlib.Nat.{le-of-suc-le-suc, mul-le-mul}
 use native.Mathlib.Omega.{arith}
@@ -23,27 +24,56 @@ use Rattle.bits.proofs.Fields.{field-lt}
 use Rattle.bits.proofs.Signs.{signed-range}
 use Rattle.frame.specs.declared.Layout.{Layout}
 use Rattle.frame.specs.declared.Header.{Header}
-use Rattle.frame.specs.declared.Limit.{Limit}
 use Rattle.frame.specs.declared.Position.{Position}
 use Rattle.frame.specs.declared.Triangle.{Triangle}
-use Rattle.frame.specs.declared.Verdict.{Verdict}
-use Rattle.frame.specs.declared.Verdict.the-variants.{Passed, Broken}
-use Rattle.frame.specs.declared.Checked.the-variants.{Accepted, Refused}
 use Rattle.frame.specs.Layout.{version1, recordStart, cellsBits, edgeAt, countAt, countBits, cornerAt}
 use Rattle.frame.specs.Fields.{headerOf, reservedOf, kindOf, positionOf, triangleOf, fromRecord}
-use Rattle.frame.specs.Questions.{firstBroken, ofEach, headerQuestions, fileQuestions, kindQuestion, decided, checked, axisFits, extentFits}
-use Rattle.frame.proofs.Asking.{passed-head, andThen, both-passed, first-append, each-passed}
+use Rattle.frame.specs.Limit.{gives, refused}
+use Rattle.frame.specs.Questions.{passed, asked, ofEach, headerQuestions, fileQuestions, kindQuestion, checked, contents, reading, axisFits, extentFits}
+use Rattle.frame.proofs.Asking.{passed-head, andThen, both-passed, first-append, asked-first, refuses, passes, asked-refused, asked-given, each-passed}
 
 both-true : (a b : Bool) → a && b ≡ true → (a ≡ true) × (b ≡ true)
 both-true true b h = (refl, h)
 both-true false b h = let z : _≡_ {A = ℕ} 0 1 = cc in absurd (omega arith)
 
-pub checked-by : (s : List ℕ) → let h = headerOf version1 s in
-    checked s ≡ decided (andThen (firstBroken (headerQuestions version1 h s)) (firstBroken (ofEach (kindQuestion version1 s) (h .count)))) h
-unfolding checked
-checked-by s =
+-- Questions 1 to 7, by the two parts of the check.
+pub file-questions : (s : List ℕ) → let h = headerOf version1 s in
+    asked (fileQuestions version1 h s)
+    ≡ andThen (asked (headerQuestions version1 h s)) (asked (ofEach (kindQuestion version1 s) (h .count)))
+file-questions s =
     let h = headerOf version1 s in
-    rw (first-append (headerQuestions version1 h s) (ofEach (kindQuestion version1 s) (h .count)))
+    first-append tt (headerQuestions version1 h s) (ofEach (kindQuestion version1 s) (h .count))
+
+pub checked-by : (s : List ℕ) → let h = headerOf version1 s in
+    checked s ≡ andThen (andThen (asked (headerQuestions version1 h s)) (asked (ofEach (kindQuestion version1 s) (h .count)))) (gives h)
+unfolding checked
+checked-by s = let h = headerOf version1 s in asked-first h (fileQuestions version1 h s) ∙ rw (file-questions s)
+
+-- ---- what the check's answer says of questions 1 to 7, and of a plain reading
+module _ (s : List ℕ) where
+  abbrev h₀ : Header
+  h₀ = headerOf version1 s
+
+  pub questions-refused : {n p : ℕ} → checked s ≡ refused n p → asked (fileQuestions version1 h₀ s) ≡ refused n p
+  unfolding checked
+  questions-refused = asked-refused h₀ (fileQuestions version1 h₀ s)
+
+  pub questions-passed : (h : Header) → checked s ≡ gives h → asked (fileQuestions version1 h₀ s) ≡ passed
+  unfolding checked
+  questions-passed h e = asked-given h₀ (fileQuestions version1 h₀ s) e .0
+
+  pub header-is : (h : Header) → checked s ≡ gives h → headerOf version1 s ≡ h
+  unfolding checked
+  header-is h e = asked-given h₀ (fileQuestions version1 h₀ s) e .1
+
+  module _ (i : ℕ) where
+    pub reading-refused : {n p : ℕ} → checked s ≡ refused n p → reading s i ≡ refused n p
+    unfolding reading
+    reading-refused e = refuses _ _ (questions-refused e)
+
+    pub reading-accepted : (h : Header) → checked s ≡ gives h → reading s i ≡ gives (contents s h i)
+    unfolding reading
+    reading-accepted h e = passes _ _ (questions-passed h e) ∙ ap (λ (x : Header). gives (contents s x i)) (header-is h e)
 
 -- ---- questions 1 to 6 as facts
 pub record HeaderPassed (l : Layout) (h : Header) (s : List ℕ) : Type 0 where
@@ -53,13 +83,13 @@ pub record HeaderPassed (l : Layout) (h : Header) (s : List ℕ) : Type 0 where
   pub extent : extentFits (l .farthest) h ≡ true
   pub whole : length s ≡ recordStart l (h .count)
 
-pub header-passed : (l : Layout) (h : Header) (s : List ℕ) → firstBroken (headerQuestions l h s) ≡ Passed → HeaderPassed l h s
+pub header-passed : (l : Layout) (h : Header) (s : List ℕ) → asked (headerQuestions l h s) ≡ passed → HeaderPassed l h s
 header-passed l h s p =
-    let q2 = passed-head _ _ (passed-head _ _ p .1) in
-    let q3 = passed-head _ _ (q2 .1) in
-    let q4 = passed-head _ _ (q3 .1) in
-    let q5 = passed-head _ _ (q4 .1) in
-    let q6 = passed-head _ _ (q5 .1) in
+    let q2 = passed-head tt _ _ (passed-head tt _ _ p .1) in
+    let q3 = passed-head tt _ _ (q2 .1) in
+    let q4 = passed-head tt _ _ (q3 .1) in
+    let q5 = passed-head tt _ _ (q4 .1) in
+    let q6 = passed-head tt _ _ (q5 .1) in
     record {
       version = eqb-true _ _ (q2 .0);
       edge = lt-true _ _ (q3 .0);
@@ -67,24 +97,6 @@ header-passed l h s p =
       extent = q5 .0;
       whole = eqb-true _ _ (q6 .0);
     }
-
--- ---- the check's answer
-decided-accepted : (v : Verdict) (h h′ : Header) → decided v h ≡ Accepted h′ → (v ≡ Passed) × (h ≡ h′)
-decided-accepted Passed h h′ e = (refl, cc)
-decided-accepted (Broken l) h h′ e = let z : _≡_ {A = ℕ} 0 1 = cc in absurd (omega arith)
-
--- The answer of the check says what the questions say.
-pub questions-broken : (s : List ℕ) (l : Limit) → checked s ≡ Refused l → firstBroken (fileQuestions version1 (headerOf version1 s) s) ≡ Broken l
-unfolding checked
-questions-broken s l e = decided-refused (firstBroken (fileQuestions version1 (headerOf version1 s) s)) e
-  where
-    decided-refused : (v : Verdict) → decided v (headerOf version1 s) ≡ Refused l → v ≡ Broken l
-    decided-refused Passed q = let z : _≡_ {A = ℕ} 0 1 = cc in absurd (omega arith)
-    decided-refused (Broken k) q = cc
-
-pub questions-passed : (s : List ℕ) (h : Header) → checked s ≡ Accepted h → firstBroken (fileQuestions version1 (headerOf version1 s) s) ≡ Passed
-unfolding checked
-questions-passed s h e = decided-accepted (firstBroken (fileQuestions version1 (headerOf version1 s) s)) (headerOf version1 s) h e .0
 
 -- ---- the ranges of what a file of version 1 holds
 pub record CoordinateRange (z : ℤ) : Type 0 where
@@ -137,7 +149,7 @@ module _ (s : List ℕ) where
   axis p q e f = record { some = omega arith; most = omega (arith, field-lt s q cellsBits); origin = coordinate p; far = le-true _ _ f }
 
   accepted-header : HeaderPassed version1 (headerOf version1 s) s
-      → firstBroken (ofEach (kindQuestion version1 s) (headerOf version1 s .count)) ≡ Passed → AcceptedFile s (headerOf version1 s)
+      → asked (ofEach (kindQuestion version1 s) (headerOf version1 s .count)) ≡ passed → AcceptedFile s (headerOf version1 s)
   unfolding headerOf
   accepted-header p k =
       let x-fits = both-true _ _ (p .extent) in
@@ -155,11 +167,10 @@ module _ (s : List ℕ) where
         kinds = λ i l. ltb-true _ 3 (each-passed (kindQuestion version1 s) _ k i l);
       }
 
-  pub accepted : (h : Header) → checked s ≡ Accepted h → AcceptedFile s h
+  pub accepted : (h : Header) → checked s ≡ gives h → AcceptedFile s h
   accepted h e =
-      let d = decided-accepted _ _ h (sym (checked-by s) ∙ e) in
-      let b = both-passed _ _ (d .0) in
-      rw (← d .1) (accepted-header (header-passed version1 (headerOf version1 s) s (b .0)) (b .1))
+      let b = both-passed _ _ (sym (file-questions s) ∙ questions-passed s h e) in
+      rw (← header-is s h e) (accepted-header (header-passed version1 (headerOf version1 s) s (b .0)) (b .1))
 
 -- ---- the map of an accepted file takes at most 32,768 bytes
 pub map-most : {s : List ℕ} {h : Header} → AcceptedFile s h → (h .cells .x * h .cells .y * h .cells .z + 7) / 8 ≤ 32768

@@ -13,6 +13,7 @@ use Rattle.frame.specs.declared.Triangle.{Triangle}
 use Rattle.frame.specs.declared.Layout.{Layout}
 use Rattle.frame.specs.declared.CellsField.{CellsField}
 use Rattle.frame.specs.declared.PositionField.{PositionField}
+use Rattle.frame.specs.declared.HeaderFields.{HeaderFields}
 use Rattle.frame.specs.Layout.{versionAt, versionBits, cellsAt, cellsBits, edgeAt, originAt, countAt, countBits, reservedAt, reservedBits, kindAt, kindBits, cornerAt, recordStart}
 
 -- The numbers of cells along x, y and z, from bit p on, each stored less one.
@@ -65,6 +66,11 @@ pub record TakenCells (s : List ℕ) (c : Cursor) (r : CellsField) : Type 0 wher
 pub record TakenPosition (s : List ℕ) (c : Cursor) (w : ℕ) (r : PositionField) : Type 0 where
   pub value : r .value ≡ positionOf s (c .at) w
   pub next : r .next .at ≡ c .at + 3 * w
+
+-- What reading a header answers: its values, and its last bits.
+pub record ReadHeader (l : Layout) (s : List ℕ) (r : HeaderFields) : Type 0 where
+  pub header : r .header ≡ headerOf l s
+  pub reserved : r .reserved ≡ reservedOf l s
 
 -- ---- a layout that a reader can take: lengths of at most 64 bytes, and fields of 1 to 25 bits, which a cursor takes at once
 pub record Usable (l : Layout) : Type 0 where

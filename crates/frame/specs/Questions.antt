@@ -1,4 +1,4 @@
--- The questions put to a frame file, in turn, and the answers of the calls. Definitions only.
+-- The questions put to a frame file, in turn, and what the calls say. Definitions only.
 use mathlib.Core.Bool.{Bool, true, false, cond, _&&_}
 use mathlib.Core.List.{List, [], _∷_, _++_}
 use Prim.Native.Nat.{ℕ, zero, suc, _^_, _≤_, _<_}
@@ -7,8 +7,6 @@ use lib.IntN.{ℤ, pos, _+ℤ_, _*ℤ_}
 use lib.ListN.{length}
 use lib.Signed.{leZ, ltZ}
 use Rattle.integers.specs.Within.{Within}
-use Rattle.frame.specs.declared.Limit.{Limit}
-use Rattle.frame.specs.declared.Limit.the-variants.{ShortHeader, Version, ZeroEdge, ReservedBits, Extent, FileLength, UnusedKind}
 use Rattle.frame.specs.declared.Verdict.{Verdict}
 use Rattle.frame.specs.declared.Verdict.the-variants.{Passed, Broken}
 use Rattle.frame.specs.declared.Checked.{Checked}
@@ -17,29 +15,49 @@ use Rattle.frame.specs.declared.Reading.{Reading}
 use Rattle.frame.specs.declared.Reading.the-variants as R
 use Rattle.frame.specs.declared.Reading.the-variants.{Found, NoRecord}
 use Rattle.frame.specs.declared.Header.{Header}
+use Rattle.frame.specs.declared.Triangle.{Triangle}
 use Rattle.frame.specs.declared.Layout.{Layout}
 use Rattle.frame.specs.Layout.{version1, recordStart}
 use Rattle.frame.specs.Fields.{headerOf, reservedOf, kindOf, triangleOf, fromRecord}
+use Rattle.frame.specs.Limit.{Answer, gives, refused, saidLimit}
 
--- A question, with the limit that a "no" says is broken.
+-- ---- questions in turn
+-- A question: its number in document 01, the place that a refusal names, and whether the answer is "yes".
 pub record Question : Type 0 where
+  pub number : ℕ
+  pub place : ℕ
   pub holds : Bool
-  pub limit : Limit
 
-infix 4 _otherwise_
-abbrev pub _otherwise_ : Bool → Limit → Question
-b otherwise l = record { holds = b; limit = l }
+-- Question n. The place is 0 unless stated.
+infix 4 _asks_
+abbrev pub _asks_ : ℕ → Bool → Question
+n asks b = record { number = n; place = 0; holds = b }
 
--- The first "no" ends the call.
-unfoldable pub firstBroken : List Question → Verdict
-firstBroken [] = Passed
-firstBroken (q ∷ qs) = elim (q .holds) [ true ↦ firstBroken qs | false ↦ Broken (q .limit) ]
+-- Question n of an item, whose number is the place.
+abbrev pub asksOf : (n item : ℕ) → Bool → Question
+asksOf n i b = record { number = n; place = i; holds = b }
+
+-- The first "no" ends the call with its number. A call with no "no" is never refused: it gives its value.
+unfoldable pub answered : {A : Type 0} → List Question → A → Answer A
+answered [] a = gives a
+answered (q ∷ qs) a = elim (q .holds) [ true ↦ answered qs a | false ↦ refused (q .number) (q .place) ]
+
+-- What the questions alone say: passed, or the first "no".
+abbrev pub Passing : Type 0
+Passing = Answer (Unit {0})
+
+abbrev pub passed : Passing
+passed = gives tt
+
+abbrev pub asked : List Question → Passing
+asked qs = answered qs tt
 
 -- The same question of each item below n, the lowest first.
 unfoldable pub ofEach : (ℕ → Question) → ℕ → List Question
 ofEach q zero = []
 ofEach q (suc n) = ofEach q n ++ (q n ∷ [])
 
+-- ---- the questions put to a file
 -- On one axis, is origin + cells × edge at most the farthest coordinate?
 abbrev pub axisFits : ℤ → ℤ → ℕ → ℤ → Bool
 axisFits farthest origin cells edge = leZ (origin +ℤ pos cells *ℤ edge) farthest
@@ -49,40 +67,56 @@ extentFits farthest h =
     axisFits farthest (h .origin .x) (h .cells .x) (h .edge)
     && (axisFits farthest (h .origin .y) (h .cells .y) (h .edge) && axisFits farthest (h .origin .z) (h .cells .z) (h .edge))
 
--- Is the kind of record i below 3?
-abbrev pub kindQuestion : Layout → List ℕ → ℕ → Question
-kindQuestion l s i = ltb (kindOf (fromRecord l s i)) 3 otherwise UnusedKind i
-
--- Questions 1 to 6, in turn, of a file s with header h.
+-- Questions 1 to 6, in turn, of a file s with header h: at least as long as a header; version 1; an edge above 0; last
+-- header bits of zero; the grid's extent; the exact length.
 abbrev pub headerQuestions : Layout → Header → List ℕ → List Question
 headerQuestions l h s =
-    (leb (l .header) (length s) otherwise ShortHeader)
-    ∷ (eqb (h .version) 1 otherwise Version)
-    ∷ (ltZ (pos 0) (h .edge) otherwise ZeroEdge)
-    ∷ (eqb (reservedOf l s) 0 otherwise ReservedBits)
-    ∷ (extentFits (l .farthest) h otherwise Extent)
-    ∷ (eqb (length s) (recordStart l (h .count)) otherwise FileLength)
+    (1 asks leb (l .header) (length s))
+    ∷ (2 asks eqb (h .version) 1)
+    ∷ (3 asks ltZ (pos 0) (h .edge))
+    ∷ (4 asks eqb (reservedOf l s) 0)
+    ∷ (5 asks extentFits (l .farthest) h)
+    ∷ (6 asks eqb (length s) (recordStart l (h .count)))
     ∷ []
+
+-- Question 7: is the kind of record i below 3?
+abbrev pub kindQuestion : Layout → List ℕ → ℕ → Question
+kindQuestion l s i = asksOf 7 i (ltb (kindOf (fromRecord l s i)) 3)
 
 -- Questions 1 to 7, in turn: the kinds come last, the lowest record first.
 abbrev pub fileQuestions : Layout → Header → List ℕ → List Question
 fileQuestions l h s = headerQuestions l h s ++ ofEach (kindQuestion l s) (h .count)
 
--- The answer of a check, by what the questions say.
-abbrev pub decided : Verdict → Header → Checked
-decided Passed h = Accepted h
-decided (Broken l) h = Refused l
+-- ---- what the calls say
+-- A check gives the header's values.
+unfoldable pub checked : List ℕ → Answer Header
+checked s = let h = headerOf version1 s in answered (fileQuestions version1 h s) h
 
-unfoldable pub checked : List ℕ → Checked
-checked s = let h = headerOf version1 s in decided (firstBroken (fileQuestions version1 h s)) h
+-- A plain reading gives the header's values with a record's ten numbers, or with "no record".
+pub data Contents : Type 0 where
+  withRecord : Header → Triangle → Contents
+  noRecord : Header → Contents
 
--- The answer of a plain reading of record i, by the answer of the check.
-abbrev pub readingOf : Checked → List ℕ → ℕ → Reading
-readingOf (Refused l) s i = R.Refused l
-readingOf (Accepted h) s i = cond (ltb i (h .count)) (Found h (triangleOf version1 (fromRecord version1 s i))) (NoRecord h)
+-- Where the record number is not below the count there is no record.
+abbrev pub contents : List ℕ → Header → ℕ → Contents
+contents s h i = cond (ltb i (h .count)) (withRecord h (triangleOf version1 (fromRecord version1 s i))) (noRecord h)
 
-unfoldable pub reading : List ℕ → ℕ → Reading
-reading s i = readingOf (checked s) s i
+unfoldable pub reading : List ℕ → ℕ → Answer Contents
+reading s i = let h = headerOf version1 s in answered (fileQuestions version1 h s) (contents s h i)
+
+-- ---- what each case of the code's enums says
+abbrev pub saidVerdict : Verdict → Passing
+saidVerdict Passed = passed
+saidVerdict (Broken l) = saidLimit l
+
+abbrev pub saidCheck : Checked → Answer Header
+saidCheck (Accepted h) = gives h
+saidCheck (Refused l) = saidLimit l
+
+abbrev pub saidReading : Reading → Answer Contents
+saidReading (Found h t) = gives (withRecord h t)
+saidReading (NoRecord h) = gives (noRecord h)
+saidReading (R.Refused l) = saidLimit l
 
 -- ---- what holds of every header that a layout gives, whatever the bytes
 pub record BoundedAxis (o : ℤ) (n : ℕ) : Type 0 where

@@ -6,8 +6,8 @@ ghost use lib.ListN.{length};
 ghost use Rattle.integers.specs.Within.{Within};
 ghost use Rattle.frame.specs.Limit.{refusalOf};
 ghost use Rattle.frame.specs.Layout.{version1, recordStart};
-ghost use Rattle.frame.specs.Fields.{Usable, TakenCells, TakenPosition, headerOf, reservedOf, kindOf, triangleOf, fromRecord};
-ghost use Rattle.frame.specs.Questions.{BoundedAxis, Bounded, axisFits, extentFits, firstBroken, headerQuestions, ofEach, kindQuestion, checked, reading};
+ghost use Rattle.frame.specs.Fields.{Usable, TakenCells, TakenPosition, ReadHeader, reservedOf, kindOf, triangleOf, fromRecord};
+ghost use Rattle.frame.specs.Questions.{BoundedAxis, Bounded, axisFits, extentFits, asked, headerQuestions, ofEach, kindQuestion, checked, reading, saidVerdict, saidCheck, saidReading};
 
 // A limit that an input breaks, named by what is wrong with it.
 pub enum Limit {
@@ -150,6 +150,12 @@ struct PositionField {
     next: Cursor,
 }
 
+// The header's values, and its last bits, which are to be zero.
+struct HeaderFields {
+    header: Header,
+    reserved: u32,
+}
+
 // The numbers of cells along x, y and z, each stored less one in 6 bits.
 fn take_cells(cursor: Cursor, s: &[u8]) -> CellsField
     requires { ⌜ cursor .at + 18 < 2 ^ 64 ⌝ }
@@ -188,10 +194,10 @@ fn take_position(cursor: Cursor, s: &[u8], width: usize) -> PositionField
     PositionField { value, next }
 }
 
-// The header's values.
-fn read_header(layout: Layout, file: &[u8]) -> Header
+// Reads the header, each field where the one before it ends.
+fn read_header(layout: Layout, file: &[u8]) -> HeaderFields
     requires { ⌜ Usable layout ⌝ }
-    ensures { λ r. ⌜ r ≡ headerOf layout (now (file .entry)) ⌝ }
+    ensures { λ r. ⌜ ReadHeader layout (now (file .entry)) r ⌝ }
 {
     let version = Cursor::new().take(file, 4);
     let after_version = version.next;
@@ -202,26 +208,21 @@ fn read_header(layout: Layout, file: &[u8]) -> Header
     let origin = take_position(after_edge, file, layout.coordinate);
     let after_origin = origin.next;
     let count = after_origin.take(file, 12);
+    let after_count = count.next;
+    let reserved = after_count.take(file, 12);
     let grid_cells = cells.value;
     let grid_origin = origin.value;
-    Header {
+    let header = Header {
         version: version.value,
         cells: grid_cells,
         edge: edge.value as i64,
         origin: grid_origin,
         count: count.value as usize,
+    };
+    HeaderFields {
+        header,
+        reserved: reserved.value,
     }
-}
-
-// The header's last bits, which are to be zero.
-fn read_reserved(layout: Layout, file: &[u8]) -> u32
-    requires { ⌜ Usable layout ⌝ }
-    ensures { λ r. ⌜ r ≡ reservedOf layout (now (file .entry)) ⌝ }
-{
-    let at = 34 + layout.edge + 3 * layout.coordinate;
-    let cursor = Cursor { at };
-    let field = cursor.take(file, 12);
-    field.value
 }
 
 // The byte at which record i begins.
@@ -299,9 +300,9 @@ fn extent_fits(farthest: i64, header: Header) -> bool
 }
 
 // Questions 1 to 6, put to a file whose header has been read.
-fn check_header(layout: Layout, file: &[u8], header: Header) -> Verdict
-    requires { ⌜ Usable layout × Bounded header ⌝ }
-    ensures { λ r. ⌜ r ≡ firstBroken (headerQuestions layout header (now (file .entry))) ⌝ }
+fn check_header(layout: Layout, file: &[u8], header: Header, reserved: u32) -> Verdict
+    requires { ⌜ Usable layout × Bounded header × (reserved ≡ reservedOf layout (now file)) ⌝ }
+    ensures { λ r. ⌜ saidVerdict r ≡ asked (headerQuestions layout header (now (file .entry))) ⌝ }
 {
     if file.len() < layout.header {
         return Verdict::Broken(Limit::ShortHeader);
@@ -312,7 +313,7 @@ fn check_header(layout: Layout, file: &[u8], header: Header) -> Verdict
     if header.edge <= 0 {
         return Verdict::Broken(Limit::ZeroEdge);
     }
-    if read_reserved(layout, file) != 0 {
+    if reserved != 0 {
         return Verdict::Broken(Limit::ReservedBits);
     }
     if !extent_fits(layout.farthest, header) {
@@ -327,7 +328,7 @@ fn check_header(layout: Layout, file: &[u8], header: Header) -> Verdict
 // Question 7, put to the first `count` records, which the file has.
 fn check_kinds(layout: Layout, file: &[u8], count: usize) -> Verdict
     requires { ⌜ Usable layout × (count < 4096) × (recordStart layout count ≤ length (now file)) ⌝ }
-    ensures { λ r. ⌜ r ≡ firstBroken (ofEach (kindQuestion layout (now (file .entry))) count) ⌝ }
+    ensures { λ r. ⌜ saidVerdict r ≡ asked (ofEach (kindQuestion layout (now (file .entry))) count) ⌝ }
 {
     let mut i = 0;
     while i < count {
@@ -348,11 +349,12 @@ pub enum Checked {
 
 // Puts questions 1 to 7 to a file.
 pub fn check(file: &[u8]) -> Checked
-    ensures { λ r. ⌜ r ≡ checked (now (file .entry)) ⌝ }
+    ensures { λ r. ⌜ saidCheck r ≡ checked (now (file .entry)) ⌝ }
 {
     let layout = version_1();
-    let header = read_header(layout, file);
-    match check_header(layout, file, header) {
+    let fields = read_header(layout, file);
+    let header = fields.header;
+    match check_header(layout, file, header, fields.reserved) {
         Verdict::Broken(limit) => Checked::Refused(limit),
         Verdict::Passed => match check_kinds(layout, file, header.count) {
             Verdict::Broken(kind) => Checked::Refused(kind),
@@ -370,7 +372,7 @@ pub enum Reading {
 
 // Reads a file's header and its record i.
 pub fn read(file: &[u8], i: usize) -> Reading
-    ensures { λ r. ⌜ r ≡ reading (now (file .entry)) i ⌝ }
+    ensures { λ r. ⌜ saidReading r ≡ reading (now (file .entry)) i ⌝ }
 {
     match check(file) {
         Checked::Refused(limit) => Reading::Refused(limit),

@@ -1,9 +1,10 @@
 -- Counting by whole bytes.
 --     count-more     the count of one number more
 --     count-byte     of the cells of one byte more
+--     count-most     no count is above the numbers counted
 --     count-same     two properties that agree have one count
 -- Assumes nothing.
-use mathlib.Core.Bool.{Bool}
+use mathlib.Core.Bool.{Bool, true, false}
 use mathlib.Core.List.{List}
 use mathlib.Core.Path.{_≡_, refl, ap, _∙_}
 use Prim.Native.Nat.{ℕ, zero, suc, _+_, _-_, _*_, _/_, _%_, _^_, _<_, _≤_}
@@ -23,6 +24,15 @@ count-none p = refl
 pub count-more : (p : ℕ → Bool) (n : ℕ) → countBelow p (n + 1) ≡ countBelow p n + bit (p n)
 unfolding countBelow
 count-more p n = rw (add-one n)
+
+pub count-most : (p : ℕ → Bool) (n : ℕ) → countBelow p n ≤ n
+unfolding countBelow
+count-most p zero = omega arith
+count-most p (suc n) = go (p n) (count-most p n)
+  where
+    go : (b : Bool) → countBelow p n ≤ n → countBelow p n + bit b ≤ suc n
+    go true h = omega arith
+    go false h = omega arith
 
 pub count-same : (p q : ℕ → Bool) (n : ℕ) → ((m : ℕ) → m < n → p m ≡ q m) → countBelow p n ≡ countBelow q n
 unfolding countBelow

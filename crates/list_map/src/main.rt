@@ -1,9 +1,9 @@
 // The map lister: a frame file from standard input, the listing of its map to standard output.
-use frame::Cells;
 use libc::STDIN_FILENO;
 use libc::STDOUT_FILENO;
 use listing::Begun;
 use listing::Piece;
+use listing::Rest;
 ghost use Prim.Native.Nat.{_≤_};
 ghost use lib.ListN.{length};
 
@@ -21,30 +21,31 @@ fn list(file: &mut [u8], map: &mut [u8], out: &mut [u8])
 {
     let len = io::read_full(STDIN_FILENO, file);
     match listing::begin(&file[..len], map, out) {
-        Begun::More(first, cells) => {
+        Begun::More(first, rest) => {
             if send(out, first) {
-                list_cells(map, cells, out);
+                list_cells(map, rest, out);
             }
         }
-        Begun::Whole(first) => {
-            send(out, first);
+        Begun::Refused(limit) => {
+            let line = listing::put_refusal(limit, out);
+            send(out, line);
         }
         Begun::ShortBuffer => {}
     }
 }
 
-// Writes the lines of the filled cells, one buffer after the other, until a write fails.
-fn list_cells(map: &[u8], cells: Cells, out: &mut [u8])
+// Writes the lines of the filled cells that are left, one buffer after the other, until a write fails.
+fn list_cells(map: &[u8], rest: Rest, out: &mut [u8])
     requires { ⌜ 64 ≤ length (now out) ⌝ }
 {
-    let mut from = 0;
+    let mut left = rest;
     loop {
-        match listing::more(map, cells, from, out) {
-            Piece::Written(next, len) => {
+        match listing::more(map, left, out) {
+            Piece::Written(len, next) => {
                 if !send(out, len) {
                     return;
                 }
-                from = next;
+                left = next;
             }
             Piece::Last(len) => {
                 send(out, len);

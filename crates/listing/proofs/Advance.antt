@@ -4,8 +4,9 @@
 --     advance-line     one cell, its line put
 --     advance-skip     cells without a line
 --     empty-byte       the cells of a zero byte have no line
+--     advance-piece    lines put up to the piece's end are the piece
 -- Assumes nothing.
-use mathlib.Core.Bool.{false}
+use mathlib.Core.Bool.{true}
 use mathlib.Core.List.{List, [], _++_}
 use mathlib.Core.Path.{_≡_, refl, sym, ap, _∙_}
 use Prim.Native.Nat.{ℕ, suc, _+_, _-_, _*_, _/_, _<_, _≤_}
@@ -13,8 +14,9 @@ use native.Mathlib.Omega.{arith}
 use lib.ListN.{length, getD, length-append}
 use Rattle.grid.specs.Map.{isFilled}
 use Rattle.grid.proofs.Filled.{empty-cell}
+use Rattle.listing.specs.declared.Rest.{Rest}
 use Rattle.listing.specs.Text.{placed, Puts}
-use Rattle.listing.specs.Listing.{cellLine, linesFrom, lineMost, stopAt, Advances}
+use Rattle.listing.specs.Listing.{cellLine, linesFrom, lineMost, stopAt, cellsIn, usable, lineOf, nextCell, pieceText, partBy, piece, pieceBytes, Advances}
 use Rattle.listing.proofs.Texts.{placed-none, placed-more, length-placed}
 use Rattle.listing.proofs.Lines.{lines-add, lines-one, lines-none, stop-step, stop-skip}
 
@@ -81,3 +83,17 @@ pub empty-byte : (m : List ℕ) (nx ny cell next : ℕ) → getD m (cell / 8) 0 
 unfolding cellLine
 empty-byte m nx ny cell next zero end n l u =
     rw (empty-cell m cell n zero l (omega (arith, u, end)))
+
+pub advance-piece : (m : List ℕ) (r : Rest) {cell at : ℕ} {out new : List ℕ} → usable (length m) (r .cells) ≡ true
+    → Advances (lineOf m (r .cells)) (cellsIn (r .cells)) (r .from) 0 out cell at new
+    → cell ≡ stopAt (lineOf m (r .cells)) (length out) (r .from) (cellsIn (r .cells) - r .from)
+    → (partBy at (record { cells = r .cells; from = cell }) ≡ piece m r out) × (new ≡ pieceBytes m r out)
+unfolding piece pieceBytes nextCell pieceText
+advance-piece m r {cell} {at} {out} {new} u p end =
+    let left : ℕ → Rest = λ n. record { cells = r .cells; from = n } in
+    let text : ℕ → List ℕ = λ n. linesFrom (lineOf m (r .cells)) (r .from) (n - r .from) in
+    let len : at ≡ length (text cell) = omega (arith, p .moved) in
+    rw u (
+      ap (λ (n : ℕ). partBy n (left cell)) len ∙ ap (λ (n : ℕ). partBy (length (text n)) (left n)) end,
+      p .bytes ∙ ap (λ (n : ℕ). placed out 0 (text n)) end,
+    )

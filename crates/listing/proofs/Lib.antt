@@ -8,8 +8,8 @@ mod Lines
 mod Advance
 -- Grids that a piece can be taken from.
 mod Usable
--- A refused file.
-mod Refused
+-- How a listing begins.
+mod Starts
 -- The pieces make the whole.
 pub mod Whole
 -- The worked listing.

@@ -5,12 +5,12 @@ use Prim.Native.Nat.{ℕ}
 use lib.ListN.{take}
 use Rattle.bits.specs.Field.{bitAt, fieldAt, signedAt}
 use Rattle.frame.specs.Fields.{headerOf, reservedOf, kindOf, triangleOf}
-use Rattle.frame.specs.Questions.{firstBroken, ofEach, checked}
+use Rattle.frame.specs.Questions.{answered, ofEach, checked}
 use Rattle.overlap.specs.Rule.{overlapsBox, overlaps}
 use Rattle.grid.specs.Map.{tabulate, countBelow}
 use Rattle.fill.specs.Steel.{steel, anyOf}
 use Rattle.listing.specs.Text.{digits, decimal}
-use Rattle.listing.specs.Listing.{cellLine, linesFrom, listing}
+use Rattle.listing.specs.Listing.{cellLine, linesFrom, firstLine, listing}
 
 abbrev g : List ℕ
 g =
@@ -23,10 +23,10 @@ pub worked : listing g
     ∷ 49 ∷ 32 ∷ 48 ∷ 32 ∷ 48 ∷ 10
     ∷ 48 ∷ 32 ∷ 49 ∷ 32 ∷ 48 ∷ 10
     ∷ 49 ∷ 32 ∷ 49 ∷ 32 ∷ 48 ∷ 10 ∷ [])
-unfolding bitAt fieldAt signedAt headerOf reservedOf kindOf triangleOf firstBroken ofEach checked overlapsBox overlaps tabulate countBelow steel anyOf digits decimal cellLine linesFrom listing
+unfolding bitAt fieldAt signedAt headerOf reservedOf kindOf triangleOf answered ofEach checked overlapsBox overlaps tabulate countBelow steel anyOf digits decimal cellLine linesFrom firstLine listing
 worked = refl
 
 -- "REFUSED 6 0"
 pub refused : listing (take 27 g) ≡ (82 ∷ 69 ∷ 70 ∷ 85 ∷ 83 ∷ 69 ∷ 68 ∷ 32 ∷ 54 ∷ 32 ∷ 48 ∷ 10 ∷ [])
-unfolding bitAt fieldAt signedAt headerOf reservedOf kindOf triangleOf firstBroken ofEach checked digits decimal listing
+unfolding bitAt fieldAt signedAt headerOf reservedOf kindOf triangleOf answered ofEach checked digits decimal listing
 refused = refl

@@ -1,26 +1,23 @@
 -- The listing of a file's map, whole and by pieces. Definitions only.
-use mathlib.Core.Bool.{Bool, true, cond, _&&_}
+use mathlib.Core.Bool.{Bool, true, false, cond, _&&_}
 use mathlib.Core.List.{List, [], _∷_, _++_}
 use mathlib.Core.Path.{_≡_}
 use Prim.Native.Nat.{ℕ, zero, suc, _+_, _-_, _*_, _<_, _≤_}
 use lib.Dec.{leb, ltb, eqb}
 use lib.ListN.{length, take}
 use Rattle.frame.specs.declared.Cells.{Cells}
-use Rattle.frame.specs.declared.Checked.{Checked}
-use Rattle.frame.specs.declared.Checked.the-variants as C
 use Rattle.frame.specs.declared.Header.{Header}
-use Rattle.frame.specs.declared.Limit.{Limit}
+use Rattle.frame.specs.declared.Refusal.{Refusal}
 use Rattle.frame.specs.Fields.{headerOf}
 use Rattle.frame.specs.Layout.{version1}
-use Rattle.frame.specs.Limit.{refusalOf}
-use Rattle.frame.specs.Questions.{checked}
+use Rattle.frame.specs.Limit.{Answer, gives, refused, numbered, saidLimit}
+use Rattle.frame.specs.Questions.{answered, checked}
 use Rattle.grid.specs.Cells.{xOfCell, yOfCell, zOfCell}
 use Rattle.grid.specs.Map.{mapLength, isFilled, countBelow}
-use Rattle.fill.specs.declared.Filling.{Filling}
-use Rattle.fill.specs.declared.Filling.the-variants.{Filled, Refused}
-use Rattle.fill.specs.Steel.{gridAt, cellCount, steel, filledBy, filling, filledBytes}
+use Rattle.fill.specs.Steel.{gridAt, cellCount, steel, filledBy, fillQuestions, filledBytes}
+use Rattle.listing.specs.declared.Rest.{Rest}
 use Rattle.listing.specs.declared.Begun.{Begun}
-use Rattle.listing.specs.declared.Begun.the-variants.{More, Whole, ShortBuffer}
+use Rattle.listing.specs.declared.Begun.the-variants.{More, ShortBuffer, Refused}
 use Rattle.listing.specs.declared.Piece.{Piece}
 use Rattle.listing.specs.declared.Piece.the-variants.{Written, Last, Unusable}
 use Rattle.listing.specs.Text.{decimal, space, lineFeed, filledWord, ofWord, refusedWord, placed}
@@ -31,8 +28,8 @@ abbrev pub filledLine : (count cells : ℕ) → List ℕ
 filledLine count cells = filledWord ++ decimal count ++ ofWord ++ decimal cells ++ lineFeed
 
 -- "REFUSED number place"
-abbrev pub refusedLine : Limit → List ℕ
-refusedLine l = refusedWord ++ decimal (refusalOf l .number) ++ space ++ decimal (refusalOf l .place) ++ lineFeed
+abbrev pub refusedLine : Refusal → List ℕ
+refusedLine r = refusedWord ++ decimal (r .number) ++ space ++ decimal (r .place) ++ lineFeed
 
 -- "i j k"
 abbrev pub placeLine : (i j k : ℕ) → List ℕ
@@ -47,37 +44,61 @@ unfoldable pub linesFrom : (ℕ → List ℕ) → (from count : ℕ) → List �
 linesFrom line from zero = []
 linesFrom line from (suc count) = linesFrom line from count ++ line (from + count)
 
--- ---- the whole listing of a file: the refusal's line; or the first line, and the lines of the filled cells by cell number
-abbrev pub listingOf : Checked → List ℕ → List ℕ
-listingOf (C.Refused l) s = refusedLine l
-listingOf (C.Accepted h) s =
-    let filled = filledBy (gridAt h) (steel s h) in
-    filledLine (countBelow filled (cellCount h)) (cellCount h) ++ linesFrom (cellLine filled (h .cells .x) (h .cells .y)) 0 (cellCount h)
+-- ---- the whole listing of a file
+-- A cell that the file's triangles fill.
+abbrev pub filledIn : List ℕ → Header → ℕ → Bool
+filledIn s h = filledBy (gridAt h) (steel s h)
+
+-- The first line of an accepted file with header h: the number of filled cells, and of all.
+unfoldable pub firstLine : List ℕ → Header → List ℕ
+firstLine s h = filledLine (countBelow (filledIn s h) (cellCount h)) (cellCount h)
+
+-- An accepted file's listing is its first line, and the lines of the filled cells by cell number. A refused file's is its
+-- REFUSED line.
+abbrev pub listingBy : Answer Header → List ℕ → List ℕ
+listingBy (gives h) s = firstLine s h ++ linesFrom (cellLine (filledIn s h) (h .cells .x) (h .cells .y)) 0 (cellCount h)
+listingBy (refused n p) s = refusedLine (numbered n p)
 
 unfoldable pub listing : List ℕ → List ℕ
-listing s = listingOf (checked s) s
+listing s = listingBy (checked s) s
 
--- ---- the first line: a fill's answer, in a buffer of at least 64 bytes, which every first line fits
+-- ---- the first line, put at the start of an output buffer of at least 64 bytes, which every first line fits
 abbrev pub firstMost : ℕ
 firstMost = 64
 
-unfoldable pub firstLine : Filling → Header → List ℕ
-firstLine (Filled count) h = filledLine count (cellCount h)
-firstLine (Refused l) h = refusedLine l
+-- How a listing begins: so many bytes of the first line were put, and this is left to list; or the output is too short.
+pub data Start : Type 0 where
+  more : (len : ℕ) → Rest → Start
+  shortBuffer : Start
 
-abbrev pub begunBy : Filling → Header → Begun
-begunBy (Filled count) h = More (length (firstLine (Filled count) h)) (h .cells)
-begunBy (Refused l) h = Whole (length (firstLine (Refused l) h))
+-- All cells of the grid, from cell 0 on.
+abbrev pub allOf : Header → Rest
+allOf h = record { cells = h .cells; from = 0 }
 
--- The answer for a file, a map and an output buffer, and the bytes of the last two afterwards.
-unfoldable pub begun : (file map out : List ℕ) → Begun
-begun s m out = cond (ltb (length out) firstMost) ShortBuffer (begunBy (filling s m) (headerOf version1 s))
+-- The start for an accepted file with header h, by the output's length.
+abbrev pub start : List ℕ → Header → (out : List ℕ) → Start
+start s h out = cond (ltb (length out) firstMost) shortBuffer (more (length (firstLine s h)) (allOf h))
 
+-- What is said for a file, a map and an output: questions 1 to 8 come first, and the output's length behind them.
+unfoldable pub begun : (file map out : List ℕ) → Answer Start
+begun s m out = let h = headerOf version1 s in answered (fillQuestions s h (length m)) (start s h out)
+
+-- Bytes that are replaced only where the first line was put.
+abbrev pub ifBegun : Answer Start → (new old : List ℕ) → List ℕ
+ifBegun (gives (more len rest)) new old = new
+ifBegun (gives shortBuffer) new old = old
+ifBegun (refused n p) new old = old
+
+-- The map and the output afterwards: the map is filled, and the output begins with the first line.
 unfoldable pub begunMap : (file map out : List ℕ) → List ℕ
-begunMap s m out = cond (ltb (length out) firstMost) m (filledBytes s m)
+begunMap s m out = ifBegun (begun s m out) (filledBytes s m) m
 
 unfoldable pub begunBytes : (file map out : List ℕ) → List ℕ
-begunBytes s m out = cond (ltb (length out) firstMost) out (placed out 0 (firstLine (filling s m) (headerOf version1 s)))
+begunBytes s m out = ifBegun (begun s m out) (placed out 0 (firstLine s (headerOf version1 s))) out
+
+-- The text that is put for a refusal: its line, where the output is long enough; else nothing.
+unfoldable pub refusalText : Refusal → (out : List ℕ) → List ℕ
+refusalText r out = cond (ltb (length out) firstMost) [] (refusedLine r)
 
 -- ---- the cells' lines, by pieces
 -- The longest line is "63 63 63" with its line feed.
@@ -105,45 +126,69 @@ usable len c = sideFits (c .x) && (sideFits (c .y) && (sideFits (c .z) && leb (m
 abbrev pub lineOf : (map : List ℕ) → Cells → ℕ → List ℕ
 lineOf m c = cellLine (isFilled m) (c .x) (c .y)
 
--- The cell to go on from after a piece that begins at a cell and has so much room, and the piece's text.
-unfoldable pub nextCell : (map : List ℕ) → Cells → (from room : ℕ) → ℕ
-nextCell m c from room = stopAt (lineOf m c) room from (cellsIn c - from)
+-- The cell to go on from after a piece with so much room, and the piece's text.
+unfoldable pub nextCell : (map : List ℕ) → Rest → (room : ℕ) → ℕ
+nextCell m r room = stopAt (lineOf m (r .cells)) room (r .from) (cellsIn (r .cells) - r .from)
 
-unfoldable pub pieceText : (map : List ℕ) → Cells → (from room : ℕ) → List ℕ
-pieceText m c from room = linesFrom (lineOf m c) from (nextCell m c from room - from)
+unfoldable pub pieceText : (map : List ℕ) → Rest → (room : ℕ) → List ℕ
+pieceText m r room = linesFrom (lineOf m (r .cells)) (r .from) (nextCell m r room - r .from)
+
+-- What is left after it.
+abbrev pub restAfter : (map : List ℕ) → Rest → (room : ℕ) → Rest
+restAfter m r room = record { cells = r .cells; from = nextCell m r room }
+
+-- What a call for more lines says: so many bytes were put, and this is left; so many, and no cell is left; or the grid or its map
+-- cannot be taken.
+pub data Part : Type 0 where
+  written : (len : ℕ) → Rest → Part
+  last : (len : ℕ) → Part
+  unusable : Part
 
 -- Cells are left, or none.
-abbrev pub pieceBy : (next all len : ℕ) → Piece
-pieceBy next all len = cond (ltb next all) (Written next len) (Last len)
+abbrev pub partBy : (len : ℕ) → Rest → Part
+partBy len r = cond (ltb (r .from) (cellsIn (r .cells))) (written len r) (last len)
 
--- The answer for a map, its grid, the cell to begin at and an output buffer, and the bytes of that buffer afterwards.
-unfoldable pub piece : (map : List ℕ) → Cells → ℕ → (out : List ℕ) → Piece
-piece m c from out = cond (usable (length m) c) (pieceBy (nextCell m c from (length out)) (cellsIn c) (length (pieceText m c from (length out)))) Unusable
+-- What is said for a map, what is left to list, and an output; and the bytes of the output afterwards.
+unfoldable pub piece : (map : List ℕ) → Rest → (out : List ℕ) → Part
+piece m r out = cond (usable (length m) (r .cells)) (partBy (length (pieceText m r (length out))) (restAfter m r (length out))) unusable
 
-unfoldable pub pieceBytes : (map : List ℕ) → Cells → ℕ → (out : List ℕ) → List ℕ
-pieceBytes m c from out = cond (usable (length m) c) (placed out 0 (pieceText m c from (length out))) out
+unfoldable pub pieceBytes : (map : List ℕ) → Rest → (out : List ℕ) → List ℕ
+pieceBytes m r out = cond (usable (length m) (r .cells)) (placed out 0 (pieceText m r (length out))) out
 
--- ---- pieces one after the other, into buffers of these lengths
-unfoldable pub pieces : (map : List ℕ) → Cells → ℕ → (rooms : List ℕ) → List ℕ
-pieces m c from [] = []
-pieces m c from (room ∷ rooms) = pieceText m c from room ++ pieces m c (nextCell m c from room) rooms
+-- ---- what is sent in all
+-- Pieces one after the other, into buffers of these lengths: each goes on from what the piece before left.
+unfoldable pub pieces : (map : List ℕ) → Rest → (rooms : List ℕ) → List ℕ
+pieces m r [] = []
+pieces m r (room ∷ rooms) = pieceText m r room ++ pieces m (restAfter m r room) rooms
 
 -- The cell that they reach.
-unfoldable pub reached : (map : List ℕ) → Cells → ℕ → (rooms : List ℕ) → ℕ
-reached m c from [] = from
-reached m c from (room ∷ rooms) = reached m c (nextCell m c from room) rooms
+unfoldable pub reached : (map : List ℕ) → Rest → (rooms : List ℕ) → ℕ
+reached m r [] = r .from
+reached m r (room ∷ rooms) = reached m (restAfter m r room) rooms
 
--- What is sent in all: the first line, as `begin` left it at the start of the output, and then the pieces.
-abbrev pub sent : Begun → (map out rooms : List ℕ) → List ℕ
-sent (More len c) m out rooms = take len out ++ pieces m c 0 rooms
-sent (Whole len) m out rooms = take len out
-sent ShortBuffer m out rooms = []
+-- The first line, as `begin` left it at the start of the output, and then the pieces of what `begin` said is left; or the refusal's
+-- line, as `put_refusal` puts it at the start of the output.
+abbrev pub sent : Answer Start → (map out rooms : List ℕ) → List ℕ
+sent (gives (more len rest)) m out rooms = take len out ++ pieces m rest rooms
+sent (gives shortBuffer) m out rooms = []
+sent (refused n p) m out rooms = let t = refusalText (numbered n p) out in take (length t) (placed out 0 t)
 
--- The pieces reach the last cell.
-abbrev pub allSent : Begun → (map rooms : List ℕ) → Bool
-allSent (More len c) m rooms = eqb (reached m c 0 rooms) (cellsIn c)
-allSent (Whole len) m rooms = true
-allSent ShortBuffer m rooms = true
+-- The pieces reach the last cell. A refusal has no pieces. A short output has no listing.
+abbrev pub allSent : Answer Start → (map rooms : List ℕ) → Bool
+allSent (gives (more len rest)) m rooms = eqb (reached m rest rooms) (cellsIn (rest .cells))
+allSent (gives shortBuffer) m rooms = false
+allSent (refused n p) m rooms = true
+
+-- ---- what each case of the code's enums says
+abbrev pub saidBegun : Begun → Answer Start
+saidBegun (More len rest) = gives (more len rest)
+saidBegun ShortBuffer = gives shortBuffer
+saidBegun (Refused l) = saidLimit l
+
+abbrev pub saidPiece : Piece → Part
+saidPiece (Written len rest) = written len rest
+saidPiece (Last len) = last len
+saidPiece Unusable = unusable
 
 -- ---- what the code of a piece keeps
 -- From cell `from` and byte `at` of the buffer to cell `next` and byte `behind`: the lines between are put, and the piece's end is the same.

@@ -10,27 +10,32 @@ ghost use mathlib.Core.List.{[], _∷_};
 ghost use mathlib.Core.Path.{_≡_};
 ghost use Prim.Native.Nat.{_+_, _-_, _*_, _/_, _<_, _≤_};
 ghost use lib.ListN.{length};
+ghost use Rattle.frame.specs.Limit.{refusalOf, gives};
 ghost use Rattle.frame.specs.Questions.{checked};
-ghost use Rattle.frame.specs.declared.Checked.the-variants.{Accepted};
-ghost use Rattle.fill.specs.Steel.{filling, filledBytes};
 ghost use Rattle.grid.specs.Map.{isFilled};
 ghost use Rattle.listing.specs.Text.{decimal, placed, Puts};
-ghost use Rattle.listing.specs.Listing.{filledLine, refusedLine, placeLine, cellLine, firstMost, firstLine, begunBy, begun, begunMap, begunBytes, lineMost, stopAt, lineOf, cellsIn, sideFits, usable, piece, pieceBytes, Advances, Ready};
+ghost use Rattle.listing.specs.Listing.{filledLine, placeLine, cellLine, firstMost, saidBegun, begun, begunMap, begunBytes, refusalText, lineMost, stopAt, lineOf, cellsIn, sideFits, usable, saidPiece, piece, pieceBytes, Advances, Ready};
+
+// What is left to list: the grid's cells, and the cell to go on from.
+pub struct Rest {
+    pub cells: Cells,
+    pub from: usize,
+}
 
 // How a listing begins.
 pub enum Begun {
-    // So many bytes of the first line were put, and lines of these cells follow.
-    More(usize, Cells),
-    // So many bytes were put: the whole listing, a refusal.
-    Whole(usize),
+    // So many bytes of the first line were put, and the lines of these cells follow.
+    More(usize, Rest),
     // The output has fewer than 64 bytes. Nothing was changed.
     ShortBuffer,
+    // The first limit broken. Nothing was changed.
+    Refused(Limit),
 }
 
 // What a call for more lines says.
 pub enum Piece {
-    // The cell to go on from, and how many bytes were put.
-    Written(usize, usize),
+    // So many bytes were put, and this is left.
+    Written(usize, Rest),
     // So many bytes were put, and no cell is left.
     Last(usize),
     // A side of the grid has no cell or more than 64, or the map is shorter than its cells need. Nothing was changed.
@@ -43,42 +48,55 @@ struct Place {
     at: usize,
 }
 
-// Fills the map from the file, and puts the first line at the start of the output. No first line is longer than 64
-// bytes.
+// Puts questions 1 to 8, and asks for 64 bytes of output, which every first line fits. Then fills the map from the file,
+// and puts the first line at the start of the output.
 pub fn begin(file: &[u8], map: &mut [u8], out: &mut [u8]) -> Begun
-    ensures { λ r. ⌜ (r ≡ begun (now (file .entry)) (now (map .entry)) (now (out .entry))) × (now (map .exit) ≡ begunMap (now (file .entry)) (now (map .entry)) (now (out .entry))) × (now (out .exit) ≡ begunBytes (now (file .entry)) (now (map .entry)) (now (out .entry))) ⌝ }
+    ensures { λ r. ⌜ (saidBegun r ≡ begun (now (file .entry)) (now (map .entry)) (now (out .entry))) × (now (map .exit) ≡ begunMap (now (file .entry)) (now (map .entry)) (now (out .entry))) × (now (out .exit) ≡ begunBytes (now (file .entry)) (now (map .entry)) (now (out .entry))) ⌝ }
 {
-    if out.len() < 64 {
-        return Begun::ShortBuffer;
-    }
     match frame::check(file) {
-        Checked::Refused(limit) => Begun::Whole(put_refused(out, limit)),
+        Checked::Refused(limit) => Begun::Refused(limit),
         Checked::Accepted(header) => begin_accepted(file, header, map, out),
     }
 }
 
-// Begins the listing of an accepted file; the map may still be too short.
+// Question 8, then the output's length. Only behind both is anything changed: the map is filled, and the line put.
 fn begin_accepted(file: &[u8], header: Header, map: &mut [u8], out: &mut [u8]) -> Begun
-    requires { ⌜ (checked (now file) ≡ Accepted header) × (firstMost ≤ length (now out)) ⌝ }
-    ensures { λ r. ⌜ (r ≡ begunBy (filling (now (file .entry)) (now (map .entry))) header) × (now (map .exit) ≡ filledBytes (now (file .entry)) (now (map .entry))) × (now (out .exit) ≡ placed (now (out .entry)) 0 (firstLine (filling (now (file .entry)) (now (map .entry))) header)) ⌝ }
+    requires { ⌜ checked (now file) ≡ gives header ⌝ }
+    ensures { λ r. ⌜ (saidBegun r ≡ begun (now (file .entry)) (now (map .entry)) (now (out .entry))) × (now (map .exit) ≡ begunMap (now (file .entry)) (now (map .entry)) (now (out .entry))) × (now (out .exit) ≡ begunBytes (now (file .entry)) (now (map .entry)) (now (out .entry))) ⌝ }
 {
     let cells = header.cells;
     let all = fill::cell_count(cells);
+    if map.len() < grid::map_length(all) {
+        return Begun::Refused(Limit::ShortMap);
+    }
+    if out.len() < 64 {
+        return Begun::ShortBuffer;
+    }
     match fill::fill(file, map) {
-        Filling::Refused(limit) => Begun::Whole(put_refused(out, limit)),
-        Filling::Filled(count) => Begun::More(put_filled(out, count, all), cells),
+        Filling::Refused(limit) => Begun::Refused(limit),
+        Filling::Filled(count) => {
+            let first = put_filled(out, count, all);
+            Begun::More(first, Rest { cells, from: 0 })
+        }
     }
 }
 
-// Puts the lines of the filled cells from cell `from` on, as long as the output has room for a longest line. Such a
+// Puts the lines of the filled cells from cell `rest.from` on, as long as the output has room for a longest line. Such a
 // line, "63 63 63" and its line feed, has 9 bytes.
-pub fn more(map: &[u8], cells: Cells, from: usize, out: &mut [u8]) -> Piece
-    ensures { λ r. ⌜ (r ≡ piece (now (map .entry)) cells from (now (out .entry))) × (now (out .exit) ≡ pieceBytes (now (map .entry)) cells from (now (out .entry))) ⌝ }
+pub fn more(map: &[u8], rest: Rest, out: &mut [u8]) -> Piece
+    ensures { λ r. ⌜ (saidPiece r ≡ piece (now (map .entry)) rest (now (out .entry))) × (now (out .exit) ≡ pieceBytes (now (map .entry)) rest (now (out .entry))) ⌝ }
 {
+    let cells = rest.cells;
     if is_usable(map, cells) {
-        let end = put_cells(map, cells, from, out);
+        let end = put_cells(map, cells, rest.from, out);
         if end.cell < fill::cell_count(cells) {
-            return Piece::Written(end.cell, end.at);
+            return Piece::Written(
+                end.at,
+                Rest {
+                    cells,
+                    from: end.cell,
+                },
+            );
         }
         return Piece::Last(end.at);
     }
@@ -194,11 +212,14 @@ fn put_filled(out: &mut [u8], count: usize, cells: usize) -> usize
     put_byte(out, behind_cells, 10)
 }
 
-// Puts "REFUSED number place".
-fn put_refused(out: &mut [u8], limit: Limit) -> usize
-    requires { ⌜ firstMost ≤ length (now out) ⌝ }
-    ensures { λ r. ⌜ Puts (now (out .entry)) 0 (refusedLine limit) (now (out .exit)) r ⌝ }
+// Puts "REFUSED number place" at the start of the output, and answers its length. Where the output has fewer than 64
+// bytes it puts nothing, and answers 0.
+pub fn put_refusal(limit: Limit, out: &mut [u8]) -> usize
+    ensures { λ r. ⌜ (r ≡ length (refusalText (refusalOf limit) (now (out .entry)))) × (now (out .exit) ≡ placed (now (out .entry)) 0 (refusalText (refusalOf limit) (now (out .entry)))) ⌝ }
 {
+    if out.len() < 64 {
+        return 0;
+    }
     let refusal = limit.refusal();
     let first = put_word(out, 0, b"REFUSED ");
     let behind_number = put_number(out, first, refusal.number as usize);

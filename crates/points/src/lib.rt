@@ -3,7 +3,7 @@ use route::RouteAnswer;
 ghost use mathlib.Core.Path.{_≡_};
 ghost use Prim.Native.Nat.{_*_, _≤_, _<_, min};
 ghost use lib.ListN.{take};
-ghost use Rattle.route.specs.Route.{routeAnswer};
+ghost use Rattle.route.specs.Route.{routeAnswer, saidRoute};
 ghost use Rattle.route.specs.Demand.{DemandOf};
 ghost use Rattle.points.specs.Points.{numbersOf, withPoint};
 
@@ -17,7 +17,7 @@ pub struct Point {
 // Tests a route as `route::test_route` does on the points' numbers in order. Those of 65 points are copied at most: 65
 // meet question 9 as any more would.
 pub fn test_points(file: &[u8], map: &[u8], points: &[Point]) -> RouteAnswer
-    ensures { λ r. ⌜ (r ≡ routeAnswer (now (file .entry)) (now (map .entry)) (numbersOf (now (points .entry)))) × DemandOf (now (file .entry)) (now (map .entry)) (numbersOf (now (points .entry))) r ⌝ }
+    ensures { λ r. ⌜ (saidRoute r ≡ routeAnswer (now (file .entry)) (now (map .entry)) (numbersOf (now (points .entry)))) × DemandOf (now (file .entry)) (now (map .entry)) (numbersOf (now (points .entry))) (saidRoute r) ⌝ }
 {
     let count = copied_count(points.len());
     let mut numbers = [0i16; 195];
@@ -31,7 +31,7 @@ pub fn test_points(file: &[u8], map: &[u8], points: &[Point]) -> RouteAnswer
 
 // The same of the first `count` points of an array, or of all 128: for callers that hold their points by value.
 pub fn test_first_points(file: &[u8], map: &[u8], points: [Point; 128], count: usize) -> RouteAnswer
-    ensures { λ r. ⌜ (r ≡ routeAnswer (now (file .entry)) (now (map .entry)) (numbersOf (take count points))) × DemandOf (now (file .entry)) (now (map .entry)) (numbersOf (take count points)) r ⌝ }
+    ensures { λ r. ⌜ (saidRoute r ≡ routeAnswer (now (file .entry)) (now (map .entry)) (numbersOf (take count points))) × DemandOf (now (file .entry)) (now (map .entry)) (numbersOf (take count points)) (saidRoute r) ⌝ }
 {
     let end = lent_count(count);
     test_points(file, map, &points[..end])
@@ -70,7 +70,7 @@ fn with_point(numbers: [i16; 195], i: usize, p: Point) -> [i16; 195]
 // Tests a route of the first `count` points whose numbers were copied.
 fn test_copied(file: &[u8], map: &[u8], numbers: [i16; 195], count: usize) -> RouteAnswer
     requires { ⌜ count ≤ 65 ⌝ }
-    ensures { λ r. ⌜ r ≡ routeAnswer (now (file .entry)) (now (map .entry)) (take (3 * count) numbers) ⌝ }
+    ensures { λ r. ⌜ saidRoute r ≡ routeAnswer (now (file .entry)) (now (map .entry)) (take (3 * count) numbers) ⌝ }
 {
     let end = 3 * count;
     route::test_route(file, map, &numbers[..end])

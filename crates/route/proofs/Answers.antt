@@ -1,7 +1,7 @@
 -- The answer of a route test, from the answers to the questions.
 --     last-passed                      what it is to pass questions 8 to 10
 --     answer-refused, answer-accepted  by the answer of the check of questions 1 to 7
---     answer-passed                    an answer that is no refusal
+--     answer-given                     an answer that is no refusal
 -- Assumes nothing.
 use mathlib.Core.Bool.{_&&_, and-eq-true-iff}
 use mathlib.Core.List.{List, [], _∷_}
@@ -13,30 +13,23 @@ use lib.Dec.{leb, eqb}
 use lib.IntN.{ℤ}
 use lib.ListN.{length}
 use Rattle.frame.specs.declared.Header.{Header}
-use Rattle.frame.specs.declared.Limit.{Limit}
-use Rattle.frame.specs.declared.Limit.the-variants.{ShortMap}
-use Rattle.frame.specs.declared.Verdict.{Verdict}
-use Rattle.frame.specs.declared.Verdict.the-variants.{Passed, Broken}
-use Rattle.frame.specs.declared.Checked.the-variants as checked
-use Rattle.frame.specs.declared.Checked.the-variants.{Accepted}
 use Rattle.frame.specs.Fields.{headerOf}
 use Rattle.frame.specs.Layout.{version1}
-use Rattle.frame.specs.Questions.{_otherwise_, firstBroken, fileQuestions, checked}
-use Rattle.frame.proofs.Accepted.{accepted, questions-broken, questions-passed}
-use Rattle.frame.proofs.Asking.{passed-head, andThen, both-passed, first-append, each-passed}
+use Rattle.frame.specs.Limit.{Answer, gives, refused}
+use Rattle.frame.specs.Questions.{Passing, passed, asked, answered, fileQuestions, checked}
+use Rattle.frame.proofs.Accepted.{questions-refused, questions-passed, header-is}
+use Rattle.frame.proofs.Asking.{passed-head, andThen, both-passed, first-append, passes, asked-given, each-passed}
 use Rattle.grid.specs.Map.{mapLength, isFilled}
-use Rattle.fill.specs.Steel.{gridAt, cellCount, fillQuestions}
-use Rattle.route.specs.declared.RouteAnswer.the-variants.{Refused}
-use Rattle.route.specs.Route.{pointCount, pointsOf, tested, pointQuestion, pointQuestions, routeVerdict, answerOf, routeAnswer}
+use Rattle.fill.specs.Steel.{gridAt, cellCount, mapQuestion, fillQuestions}
+use Rattle.route.specs.Route.{pointCount, pointsOf, Finding, tested, pointQuestion, pointQuestions, routeQuestions, routeAnswer}
 use Rattle.route.specs.Search.{ReadyRoute, lastQuestions}
-use Rattle.route.specs.Demand.{NotRefused}
 use Rattle.route.proofs.Ready.{points-length}
 
 -- ---- questions 8 to 10 as facts
-pub last-passed : (h : Header) (len : ℕ) (ns : List ℤ) → firstBroken (lastQuestions h len ns) ≡ Passed → (mapLength (cellCount h) ≤ len) × ReadyRoute h ns
+pub last-passed : (h : Header) (len : ℕ) (ns : List ℤ) → asked (lastQuestions h len ns) ≡ passed → (mapLength (cellCount h) ≤ len) × ReadyRoute h ns
 last-passed h len ns e =
-    let q8 = passed-head _ _ e in
-    let q9 = passed-head _ _ (q8 .1) in
+    let q8 = passed-head tt _ _ e in
+    let q9 = passed-head tt _ _ (q8 .1) in
     let count = and-eq-true-iff (leb 2 (pointCount ns)) (leb (pointCount ns) 64 && eqb (length ns % 3) 0) .0 (q9 .0) in (
       leb-true _ _ (q8 .0),
       record {
@@ -46,46 +39,48 @@ last-passed h len ns e =
     )
 
 -- ---- questions 1 to 7, then 8 to 10
-then-assoc : (u v w : Verdict) → andThen (andThen u v) w ≡ andThen u (andThen v w)
-then-assoc Passed v w = refl
-then-assoc (Broken l) v w = refl
+then-assoc : {A : Type 0} (u v : Passing) (w : Answer A) → andThen (andThen u v) w ≡ andThen u (andThen v w)
+then-assoc (gives a) v w = refl
+then-assoc (refused n p) v w = refl
 
-module _ (s : List ℕ) (len : ℕ) (ns : List ℤ) where
-  abbrev h : Header
-  h = headerOf version1 s
+module _ {A : Type 0} (x : A) (s : List ℕ) (len : ℕ) (ns : List ℤ) where
+  abbrev h₀ : Header
+  h₀ = headerOf version1 s
 
-  verdict : routeVerdict s len ns ≡ andThen (firstBroken (fileQuestions version1 h s)) (firstBroken (lastQuestions h len ns))
-  verdict =
-      let q8 = leb (mapLength (cellCount h)) len otherwise ShortMap in
-      let last = pointQuestions (gridAt h) ns in
-      first-append (fillQuestions s h len) last
-      ∙ ap (λ (v : Verdict). andThen v (firstBroken last)) (first-append (fileQuestions version1 h s) (q8 ∷ []))
-      ∙ then-assoc (firstBroken (fileQuestions version1 h s)) (firstBroken (q8 ∷ [])) (firstBroken last)
-      ∙ ap (andThen (firstBroken (fileQuestions version1 h s))) (sym (first-append (q8 ∷ []) last))
+  in-turn : answered (routeQuestions s h₀ len ns) x ≡ andThen (asked (fileQuestions version1 h₀ s)) (answered (lastQuestions h₀ len ns) x)
+  in-turn =
+      let file = fileQuestions version1 h₀ s in
+      let q8 = mapQuestion h₀ len in
+      let last = pointQuestions (gridAt h₀) ns in
+      first-append x (fillQuestions s h₀ len) last
+      ∙ ap (λ (v : Passing). andThen v (answered last x)) (first-append tt file (q8 ∷ []))
+      ∙ then-assoc (asked file) (asked (q8 ∷ [])) (answered last x)
+      ∙ ap (andThen (asked file)) (sym (first-append x (q8 ∷ []) last))
 
 module _ (s m : List ℕ) (ns : List ℤ) where
-  pub answer-refused : (l : Limit) → checked s ≡ checked.Refused l → routeAnswer s m ns ≡ Refused l
+  abbrev finding : Header → Finding
+  finding h = tested (isFilled m) (gridAt h) (pointsOf ns)
+
+  pub answer-refused : {n p : ℕ} → checked s ≡ refused n p → routeAnswer s m ns ≡ refused n p
   unfolding routeAnswer
-  answer-refused l e = rw (verdict s (length m) ns, questions-broken s l e)
+  answer-refused e = in-turn (finding (headerOf version1 s)) s (length m) ns ∙ rw (questions-refused s e)
 
-  pub answer-accepted : (h : Header) → checked s ≡ Accepted h
-      → routeAnswer s m ns ≡ answerOf (firstBroken (lastQuestions h (length m) ns)) (tested (isFilled m) (gridAt h) (pointsOf ns))
+  pub answer-accepted : (h : Header) → checked s ≡ gives h → routeAnswer s m ns ≡ answered (lastQuestions h (length m) ns) (finding h)
   unfolding routeAnswer
-  answer-accepted h e = rw (verdict s (length m) ns, questions-passed s h e, accepted s h e .header)
+  answer-accepted h e =
+      in-turn (finding (headerOf version1 s)) s (length m) ns
+      ∙ rw (questions-passed s h e) (ap (λ (y : Header). answered (lastQuestions y (length m) ns) (finding y)) (header-is s h e))
 
-  -- an answer that is no refusal: the questions are passed, and the legs are tested
-  pub record PassedRoute : Type 0 where
-    pub file : checked s ≡ Accepted (headerOf version1 s)
-    pub last : firstBroken (lastQuestions (headerOf version1 s) (length m) ns) ≡ Passed
-    pub answer : routeAnswer s m ns ≡ tested (isFilled m) (gridAt (headerOf version1 s)) (pointsOf ns)
+  -- an answer that is no refusal: the questions are passed, and the finding is that of the legs
+  pub record GivenRoute (f : Finding) : Type 0 where
+    pub file : checked s ≡ gives (headerOf version1 s)
+    pub last : asked (lastQuestions (headerOf version1 s) (length m) ns) ≡ passed
+    pub answer : finding (headerOf version1 s) ≡ f
 
-  pub answer-passed : NotRefused (routeAnswer s m ns) → PassedRoute
+  pub answer-given : {f : Finding} → routeAnswer s m ns ≡ gives f → GivenRoute f
   unfolding routeAnswer checked
-  answer-passed accepted = go (routeVerdict s (length m) ns) refl accepted
-    where
-      go : (v : Verdict) → routeVerdict s (length m) ns ≡ v → NotRefused (answerOf v (tested (isFilled m) (gridAt (headerOf version1 s)) (pointsOf ns))) → PassedRoute
-      go (Broken l) e some = absurd (some l refl)
-      go Passed e some =
-          let h = headerOf version1 s in
-          let both = both-passed (firstBroken (fileQuestions version1 h s)) (firstBroken (lastQuestions h (length m) ns)) (sym (verdict s (length m) ns) ∙ e) in
-          record { file = rw (both .0); last = both .1; answer = rw e }
+  answer-given e =
+      let h = headerOf version1 s in
+      let (all, answer) = asked-given (finding h) (routeQuestions s h (length m) ns) e in
+      let (first, last) = both-passed _ _ (sym (in-turn tt s (length m) ns) ∙ all) in
+      record { file = passes h (fileQuestions version1 h s) first; last = last; answer = answer }

@@ -1,10 +1,12 @@
 -- Demand 3: what the answer of a route test says about legs and triangles.
+--     blocked-in    a finding of "blocked" names a leg of the route and a filled cell of the grid that the leg touches
 --     demand-grid   over a grid, its triangles and the points of a route, for a map that holds the rule's cells
 --     demand-3      over a file, a map that an accepted fill with it left, and the numbers of a route
+--     demand-of         the answer and the claim, as contracts state them
 -- Assumes nothing.
 use mathlib.Core.Bool.{Bool, true, false, _||_, and-eq-true-iff}
-use mathlib.Core.List.{List, [], _∷_, _++_}
-use mathlib.Core.Logic.{inl, inr}
+use mathlib.Core.List.{List, [], _∷_}
+use mathlib.Core.Logic.{_⊎_, inl, inr}
 use mathlib.Core.Path.{_≡_, refl, sym, ap, _∙_, subst}
 use Prim.Native.Nat.{ℕ, _+_, _<_}
 use native.Mathlib.Omega.{arith}
@@ -14,10 +16,9 @@ use lib.IntN.{ℤ, pos}
 use lib.ListN.{length, drop}
 use lib.Signed.{_≤ℤ_}
 use Rattle.integers.proofs.Laws.{<→≤}
-use Rattle.frame.specs.declared.Verdict.{Verdict}
-use Rattle.frame.specs.declared.Verdict.the-variants.{Passed, Broken}
 use Rattle.frame.specs.Fields.{headerOf}
 use Rattle.frame.specs.Layout.{version1}
+use Rattle.frame.specs.Limit.{Answer}
 use Rattle.frame.proofs.Accepted.{accepted}
 use Rattle.overlap.specs.Geometry.{Point, Triangle, leg, cube}
 use Rattle.overlap.specs.Grid.{Grid, cellCorner}
@@ -27,15 +28,14 @@ use Rattle.reach.proofs.Theorem.{cell-rule}
 use Rattle.reach.proofs.Legs.{leg-rule}
 use Rattle.reach.proofs.Grid.{Proper, common-cell}
 use Rattle.grid.specs.Cells.{cellNumber}
-use Rattle.grid.specs.Map.{mapLength, isFilled, countBelow, mapOf}
+use Rattle.grid.specs.Map.{mapLength, isFilled}
 use Rattle.grid.proofs.Maps.{filled-map}
 use Rattle.grid.proofs.Numbers.{number-lt, x-of, y-of, z-of}
-use Rattle.fill.specs.declared.Filling.the-variants.{Filled}
-use Rattle.fill.specs.Steel.{gridAt, cellCount, steel, anyOf, fillsCell, filledBy, fillVerdict, fillAnswer, filling, fillBytes, filledBytes}
-use Rattle.route.specs.declared.RouteAnswer.the-variants.{Free, Blocked}
-use Rattle.route.specs.Route.{pointsOf, pointAt, legAt, legCount, cellsOf, filledAndTouched, firstTouched, onLeg, tested, routeAnswer}
-use Rattle.route.specs.Demand.{SomeOf, cornerOf, BothReach, Demand3, LeftByFill, DemandOf}
-use Rattle.route.proofs.Answers.{last-passed, answer-passed}
+use Rattle.fill.specs.Steel.{gridAt, cellCount, steel, anyOf, fillsCell, filledBy}
+use Rattle.fill.proofs.Answers.{left-given}
+use Rattle.route.specs.Route.{Finding, free, blocked, pointsOf, pointAt, legAt, legCount, cellsOf, filledAndTouched, firstTouched, onLeg, tested, routeAnswer}
+use Rattle.route.specs.Demand.{SomeOf, cornerOf, IsBlocked, BothReach, Demand3, LeftByFill, DemandOf}
+use Rattle.route.proofs.Answers.{last-passed, answer-given}
 use Rattle.fill.proofs.Ways.{apart}
 use Rattle.route.proofs.First.{none-below, below-none, found-has, legs-free, free-legs, blocked-leg}
 use Rattle.route.proofs.Ready.{ready, points-length, inside-grid}
@@ -67,6 +67,20 @@ module _ {A : Type 0} (p : A → Bool) (P : A → Type 0) where
       or-true : (b : Bool) → (b || true) ≡ true
       or-true true = refl
       or-true false = refl
+
+-- The leg and the cell that a finding names.
+pub blocked-in : (filled : ℕ → Bool) (g : Grid) (ps : List Point) (m n : ℕ) → tested filled g ps ≡ blocked m n
+    → (m < legCount ps) × (n < cellsOf g) × (filledAndTouched filled g (legAt ps m) n ≡ true)
+unfolding tested firstTouched
+blocked-in filled g ps m n e =
+    let (lm, found) = blocked-leg (onLeg filled g ps) (legCount ps) m n e in
+    let (ln, hit) = found-has (filledAndTouched filled g (legAt ps m)) (cellsOf g) n found in
+    (lm, ln, hit)
+
+-- (c)
+free-or-blocked : (r : Finding) → (r ≡ free) ⊎ IsBlocked r
+free-or-blocked free = inl refl
+free-or-blocked (blocked m n) = inr (record { leg = m; cell = n; is = refl })
 
 -- ---- the rule is exactly "reaches", for a triangle and for a leg
 module _ (p : Point) (s : ℤ) (size : pos 0 ≤ℤ s) where
@@ -105,13 +119,13 @@ module _ (g : Grid) (ts : List Triangle) (ps : List Point) (filled : ℕ → Boo
       )
 
   -- (a)
-  free-none : tested filled g ps ≡ Free → (m n : ℕ) → BothReach g ts ps m n → ⊥
+  free-none : tested filled g ps ≡ free → (m n : ℕ) → BothReach g ts ps m n → ⊥
   unfolding tested firstTouched
   free-none e m n b =
       apart (both-reached b)
       (below-none (filledAndTouched filled g (legAt ps m)) (cellsOf g) (free-legs (onLeg filled g ps) (legCount ps) e m (b .leg-in)) n (b .cell-in))
 
-  none-free : ((m n : ℕ) → BothReach g ts ps m n → ⊥) → tested filled g ps ≡ Free
+  none-free : ((m n : ℕ) → BothReach g ts ps m n → ⊥) → tested filled g ps ≡ free
   unfolding tested firstTouched
   none-free never = legs-free (onLeg filled g ps) (legCount ps) (λ m lm. none-below (filledAndTouched filled g (legAt ps m)) (cellsOf g) (λ n ln. go m n lm ln (filledAndTouched filled g (legAt ps m) n) refl))
     where
@@ -135,19 +149,16 @@ module _ (g : Grid) (ts : List Triangle) (ps : List Point) (filled : ℕ → Boo
       })
   common-reach lm never (u ∷ us) among (inr rest) = common-reach lm never us (λ n r. among n (inr r)) rest
 
-  -- (c)
-  blocked-both : (m n : ℕ) → tested filled g ps ≡ Blocked m n → BothReach g ts ps m n
-  unfolding tested firstTouched
-  blocked-both m n e =
-      let (lm, found) = blocked-leg (onLeg filled g ps) (legCount ps) m n e in
-      let (ln, hit) = found-has (filledAndTouched filled g (legAt ps m)) (cellsOf g) n found in
-      both-reach m n lm ln hit
+  -- (d)
+  blocked-both : (m n : ℕ) → tested filled g ps ≡ blocked m n → BothReach g ts ps m n
+  blocked-both m n e = let (lm, ln, hit) = blocked-in filled g ps m n e in both-reach m n lm ln hit
 
   pub demand-grid : Demand3 g ts ps (tested filled g ps)
   demand-grid = record {
-    free = (free-none, none-free);
-    apart = λ e p. common-reach (p .leg-in) (free-none e (p .m)) ts (λ n r. r) (p .common);
-    blocked = blocked-both;
+    exactly = (free-none, none-free);
+    apart = λ e p. common-reach {m = p .m} (omega (arith, p .on-route)) (free-none e (p .m)) ts (λ n r. r) (p .common);
+    otherwise = free-or-blocked (tested filled g ps);
+    named = blocked-both;
   }
 
 -- ---- a file, a map that an accepted fill with it left, and the numbers of a route
@@ -160,25 +171,23 @@ module _ (s m : List ℕ) where
 
   -- the map holds the rule's cells
   filled-rule : LeftByFill s m → (n : ℕ) → n < cells → isFilled m n ≡ rule n
-  unfolding filling filledBytes
-  filled-rule left n l = go (fillVerdict s (length (left .old))) (left .accepted) (left .bytes)
-    where
-      go : (v : Verdict) → fillAnswer v (countBelow rule cells) ≡ Filled (left .count)
-          → m ≡ fillBytes v (mapOf rule cells ++ drop (mapLength cells) (left .old)) (left .old) → isFilled m n ≡ rule n
-      go (Broken k) a b = let z : _≡_ {A = ℕ} 0 1 = cc in absurd (omega arith)
-      go Passed a b =
-          ap (λ (x : List ℕ). isFilled x n) b
-          ∙ filled-map rule cells (drop (mapLength cells) (left .old)) n (omega arith)
-          ∙ rw (lt-ltb n cells l)
+  filled-rule left n l =
+      ap (λ (x : List ℕ). isFilled x n) (left .bytes ∙ left-given s (left .old) (left .accepted))
+      ∙ filled-map rule cells (drop (mapLength cells) (left .old)) n (omega arith)
+      ∙ rw (lt-ltb n cells l)
 
   module _ (ns : List ℤ) where
     pub demand-3 : DemandOf s m ns (routeAnswer s m ns)
-    demand-3 accept left =
+    demand-3 f given left =
         let h = headerOf version1 s in
-        let p = answer-passed s m ns accept in
+        let p = answer-given s m ns given in
         let r = ready (accepted s h (p .file)) in
         let route = last-passed h (length m) ns (p .last) .1 in
         let proper : Proper (gridAt h) = record { x = r .x .some; y = r .y .some; z = r .z .some; edge = <→≤ (r .positive) } in
-        rw (p .answer)
+        rw (← p .answer)
         (demand-grid (gridAt h) (steel s h) (pointsOf ns) (isFilled m) proper
         (λ i l. inside-grid (route .inside i (omega (arith, points-length ns)))) (filled-rule left))
+
+    -- an answer that is the definition's, with what demand 3 says of it
+    pub demand-of : {r : Answer Finding} → r ≡ routeAnswer s m ns → (r ≡ routeAnswer s m ns) × DemandOf s m ns r
+    demand-of e = (e, subst (DemandOf s m ns) (sym e) demand-3)

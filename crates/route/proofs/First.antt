@@ -13,9 +13,7 @@ use native.Mathlib.Numerals.{add-one}
 use native.Mathlib.Omega.{arith}
 use Rattle.route.specs.declared.Found.{Found}
 use Rattle.route.specs.declared.Found.the-variants.{Cell, Nothing}
-use Rattle.route.specs.declared.RouteAnswer.{RouteAnswer}
-use Rattle.route.specs.declared.RouteAnswer.the-variants.{Free, Blocked, Refused}
-use Rattle.route.specs.Route.{here, orElse, firstBelow, answerAt, orLater, firstBlocked}
+use Rattle.route.specs.Route.{here, orElse, firstBelow, Finding, free, blocked, byLeg, orLater, firstBlocked}
 
 -- ---- the lowest number
 module _ (p : ℕ → Bool) where
@@ -64,56 +62,54 @@ module _ (p : ℕ → Bool) where
 
 -- ---- the first leg
 module _ (find : ℕ → Found) where
-  pub legs-none : firstBlocked find 0 ≡ Free
+  pub legs-none : firstBlocked find 0 ≡ free
   unfolding firstBlocked
   legs-none = refl
 
-  pub legs-more : (m : ℕ) → firstBlocked find m ≡ Free → find m ≡ Nothing → firstBlocked find (m + 1) ≡ Free
+  pub legs-more : (m : ℕ) → firstBlocked find m ≡ free → find m ≡ Nothing → firstBlocked find (m + 1) ≡ free
   unfolding firstBlocked
   legs-more m e f = rw (add-one, e, f)
 
-  pub legs-blocked : (m n c : ℕ) → m < c → firstBlocked find m ≡ Free → find m ≡ Cell n → firstBlocked find c ≡ Blocked m n
+  pub legs-blocked : (m n c : ℕ) → m < c → firstBlocked find m ≡ free → find m ≡ Cell n → firstBlocked find c ≡ blocked m n
   unfolding firstBlocked
   legs-blocked m n zero l e f = absurd (omega arith)
   legs-blocked m n (suc c) l e f = go (ℕ-discrete m c) (λ k. legs-blocked m n c k e f)
     where
-      go : Dec (m ≡ c) → (m < c → firstBlocked find c ≡ Blocked m n) → orLater (firstBlocked find c) (answerAt c (find c)) ≡ Blocked m n
+      go : Dec (m ≡ c) → (m < c → firstBlocked find c ≡ blocked m n) → orLater (firstBlocked find c) (byLeg c (find c)) ≡ blocked m n
       go (yes q) again = rw (← q, e, f)
       go (no q) again = rw (again (omega arith))
 
-  pub legs-free : (c : ℕ) → ((m : ℕ) → m < c → find m ≡ Nothing) → firstBlocked find c ≡ Free
+  pub legs-free : (c : ℕ) → ((m : ℕ) → m < c → find m ≡ Nothing) → firstBlocked find c ≡ free
   unfolding firstBlocked
   legs-free zero h = refl
   legs-free (suc c) h = rw (legs-free c (λ m l. h m (omega arith)), h c (omega arith))
 
-  pub free-legs : (c : ℕ) → firstBlocked find c ≡ Free → (m : ℕ) → m < c → find m ≡ Nothing
+  pub free-legs : (c : ℕ) → firstBlocked find c ≡ free → (m : ℕ) → m < c → find m ≡ Nothing
   unfolding firstBlocked
   free-legs zero e m l = absurd (omega arith)
   free-legs (suc c) e m l =
       let both = neither (firstBlocked find c) (find c) e in
       go (ℕ-discrete m c) (free-legs c (both .0) m) (both .1)
     where
-      neither : (r : RouteAnswer) (t : Found) → orLater r (answerAt c t) ≡ Free → (r ≡ Free) × (t ≡ Nothing)
-      neither Free (Cell n) q = let z : _≡_ {A = ℕ} 0 1 = cc in absurd (omega arith)
-      neither Free Nothing q = (refl, refl)
-      neither (Blocked i n) t q = let z : _≡_ {A = ℕ} 0 1 = cc in absurd (omega arith)
-      neither (Refused k) t q = let z : _≡_ {A = ℕ} 0 1 = cc in absurd (omega arith)
+      neither : (r : Finding) (t : Found) → orLater r (byLeg c t) ≡ free → (r ≡ free) × (t ≡ Nothing)
+      neither free (Cell n) q = let z : _≡_ {A = ℕ} 0 1 = cc in absurd (omega arith)
+      neither free Nothing q = (refl, refl)
+      neither (blocked i n) t q = let z : _≡_ {A = ℕ} 0 1 = cc in absurd (omega arith)
 
       go : Dec (m ≡ c) → (m < c → find m ≡ Nothing) → find c ≡ Nothing → find m ≡ Nothing
       go (yes q) again last = rw q last
       go (no q) again last = again (omega arith)
 
-  pub blocked-leg : (c m n : ℕ) → firstBlocked find c ≡ Blocked m n → (m < c) × (find m ≡ Cell n)
+  pub blocked-leg : (c m n : ℕ) → firstBlocked find c ≡ blocked m n → (m < c) × (find m ≡ Cell n)
   unfolding firstBlocked
   blocked-leg zero m n e = let z : _≡_ {A = ℕ} 0 1 = cc in absurd (omega arith)
   blocked-leg (suc c) m n e = go (firstBlocked find c) (find c) refl refl e (blocked-leg c m n)
     where
-      go : (r : RouteAnswer) (t : Found) → firstBlocked find c ≡ r → find c ≡ t → orLater r (answerAt c t) ≡ Blocked m n
-          → (firstBlocked find c ≡ Blocked m n → (m < c) × (find m ≡ Cell n)) → (m < suc c) × (find m ≡ Cell n)
-      go Free (Cell k) q u f again =
+      go : (r : Finding) (t : Found) → firstBlocked find c ≡ r → find c ≡ t → orLater r (byLeg c t) ≡ blocked m n
+          → (firstBlocked find c ≡ blocked m n → (m < c) × (find m ≡ Cell n)) → (m < suc c) × (find m ≡ Cell n)
+      go free (Cell k) q u f again =
           let leg : c ≡ m = cc in
           let cell : k ≡ n = cc in
           (omega arith, rw (← leg, ← cell) u)
-      go Free Nothing q u f again = let z : _≡_ {A = ℕ} 0 1 = cc in absurd (omega arith)
-      go (Blocked i k) t q u f again = let h = again (q ∙ f) in (omega (arith, h .0), h .1)
-      go (Refused k) t q u f again = let z : _≡_ {A = ℕ} 0 1 = cc in absurd (omega arith)
+      go free Nothing q u f again = let z : _≡_ {A = ℕ} 0 1 = cc in absurd (omega arith)
+      go (blocked i k) t q u f again = let h = again (q ∙ f) in (omega (arith, h .0), h .1)

@@ -4,18 +4,15 @@ use mathlib.Core.Logic.{_↔_, _⊎_}
 use mathlib.Core.Path.{_≡_}
 use Prim.Native.Nat.{ℕ, _+_, _<_}
 use lib.IntN.{ℤ}
-use Rattle.frame.specs.declared.Limit.{Limit}
 use Rattle.frame.specs.Fields.{headerOf}
 use Rattle.frame.specs.Layout.{version1}
+use Rattle.frame.specs.Limit.{Answer, gives}
 use Rattle.overlap.specs.Geometry.{Point, Triangle}
 use Rattle.overlap.specs.Grid.{Grid, cellCorner}
 use Rattle.reach.specs.Reaches.{Reaches, LegReaches, CommonPoint}
 use Rattle.grid.specs.Cells.{xOfCell, yOfCell, zOfCell}
-use Rattle.fill.specs.declared.Filling.the-variants.{Filled}
 use Rattle.fill.specs.Steel.{gridAt, steel, filling, filledBytes}
-use Rattle.route.specs.declared.RouteAnswer.{RouteAnswer}
-use Rattle.route.specs.declared.RouteAnswer.the-variants.{Free, Blocked, Refused}
-use Rattle.route.specs.Route.{pointsOf, pointAt, legCount, cellsOf}
+use Rattle.route.specs.Route.{pointsOf, pointAt, legCount, cellsOf, Finding, free, blocked}
 
 -- Some item of the list has the property.
 abbrev pub SomeOf : {A : Type 0} → (A → Type 0) → List A → Type 0
@@ -25,6 +22,12 @@ SomeOf P (x ∷ xs) = P x ⊎ SomeOf P xs
 -- The lowest corner of cell n.
 abbrev pub cornerOf : Grid → ℕ → Point
 cornerOf g n = cellCorner g (xOfCell (g .nx) n) (yOfCell (g .nx) (g .ny) n) (zOfCell (g .nx) (g .ny) n)
+
+-- The finding is "blocked", with some leg and some cell.
+pub record IsBlocked (r : Finding) : Type 0 where
+  pub leg : ℕ
+  pub cell : ℕ
+  pub is : r ≡ blocked leg cell
 
 -- ---- a grid, its triangles and the points of a route
 module _ (g : Grid) (ts : List Triangle) (ps : List Point) where
@@ -38,32 +41,31 @@ module _ (g : Grid) (ts : List Triangle) (ps : List Point) where
   -- A route has a point in common with a triangle when one of its legs has.
   pub record Meets : Type 0 where
     pub m : ℕ
-    pub leg-in : m < legCount ps
+    pub on-route : m < legCount ps
     pub common : SomeOf (λ t. CommonPoint (pointAt ps m) (pointAt ps (m + 1)) t) ts
 
-  -- The claim, of an answer r:
+  -- The claim, of a finding r:
   --   (a) it is "free" exactly when no cell is reached both by a leg and by a triangle;
   --   (b) where it is "free", the route has no point in common with a triangle;
-  --   (c) where it is "blocked", the leg named and some triangle both reach the cell named.
-  pub record Demand3 (r : RouteAnswer) : Type 0 where
-    pub free : (r ≡ Free) ↔ ((m n : ℕ) → BothReach m n → ⊥)
-    pub apart : r ≡ Free → Meets → ⊥
-    pub blocked : (m n : ℕ) → r ≡ Blocked m n → BothReach m n
+  --   (c) otherwise it is "blocked", with some leg and some cell;
+  --   (d) the leg named and some triangle both reach the cell named.
+  pub record Demand3 (r : Finding) : Type 0 where
+    pub exactly : (r ≡ free) ↔ ((m n : ℕ) → BothReach m n → ⊥)
+    pub apart : r ≡ free → Meets → ⊥
+    pub otherwise : (r ≡ free) ⊎ IsBlocked r
+    pub named : (m n : ℕ) → r ≡ blocked m n → BothReach m n
 
 -- ---- a file, a map and the numbers of a route
 -- The premise: the map's bytes are those that an accepted fill with this file leaves there, whatever bytes it found.
 pub record LeftByFill (s m : List ℕ) : Type 0 where
   pub old : List ℕ
   pub count : ℕ
-  pub accepted : filling s old ≡ Filled count
+  pub accepted : filling s old ≡ gives count
   pub bytes : m ≡ filledBytes s old
 
--- The answer is no refusal.
-abbrev pub NotRefused : RouteAnswer → Type 0
-NotRefused r = (l : Limit) → r ≡ Refused l → ⊥
-
--- The claim, of the file's grid, its triangles and the route's points.
-abbrev pub DemandOf : (file map : List ℕ) (numbers : List ℤ) → RouteAnswer → Type 0
+-- The claim, of what a route test says: where it is not refused, demand 3 holds of its finding on the file's grid, its
+-- triangles and the route's points.
+abbrev pub DemandOf : (file map : List ℕ) (numbers : List ℤ) → Answer Finding → Type 0
 DemandOf s m ns r =
     let h = headerOf version1 s in
-    NotRefused r → LeftByFill s m → Demand3 (gridAt h) (steel s h) (pointsOf ns) r
+    (f : Finding) → r ≡ gives f → LeftByFill s m → Demand3 (gridAt h) (steel s h) (pointsOf ns) f

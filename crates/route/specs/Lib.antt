@@ -1,3 +1,4 @@
 pub mod Route
 pub mod Demand
 pub mod Search
+pub mod Worked

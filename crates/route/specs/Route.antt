@@ -7,12 +7,10 @@ use lib.IntN.{ℤ, pos, _+ℤ_}
 use lib.ListN.{length, getD}
 use lib.Signed.{leZ}
 use Rattle.frame.specs.declared.Header.{Header}
-use Rattle.frame.specs.declared.Limit.the-variants.{PointCount, PointOutside}
-use Rattle.frame.specs.declared.Verdict.{Verdict}
-use Rattle.frame.specs.declared.Verdict.the-variants.{Passed, Broken}
 use Rattle.frame.specs.Fields.{headerOf}
 use Rattle.frame.specs.Layout.{version1}
-use Rattle.frame.specs.Questions.{Question, _otherwise_, firstBroken, ofEach}
+use Rattle.frame.specs.Limit.{Answer, gives, saidLimit}
+use Rattle.frame.specs.Questions.{Question, _asks_, asksOf, answered, ofEach}
 use Rattle.overlap.specs.Geometry.{Point, point, Triangle, leg, Axis, xOf, yOf, zOf}
 use Rattle.overlap.specs.Grid.{Grid, gridExtent}
 use Rattle.grid.specs.Map.{isFilled, tabulate}
@@ -71,28 +69,32 @@ filledAndTouched filled g t n = filled n && fillsCell g n t
 unfoldable pub firstTouched : (ℕ → Bool) → Grid → Triangle → Found
 firstTouched filled g t = firstBelow (filledAndTouched filled g t) (cellsOf g)
 
--- The answer by leg m alone: blocked where a cell is found.
-abbrev pub answerAt : ℕ → Found → RouteAnswer
-answerAt m (Cell n) = Blocked m n
-answerAt m Nothing = Free
+-- What a test of a route finds: it is free; or blocked, by a leg, at a cell.
+pub data Finding : Type 0 where
+  free : Finding
+  blocked : (leg cell : ℕ) → Finding
+
+-- The finding by leg m alone: blocked where a cell is found.
+abbrev pub byLeg : ℕ → Found → Finding
+byLeg m (Cell n) = blocked m n
+byLeg m Nothing = free
 
 -- What the legs before say, and else what the next says.
-abbrev pub orLater : RouteAnswer → RouteAnswer → RouteAnswer
-orLater Free later = later
-orLater (Blocked m n) later = Blocked m n
-orLater (Refused l) later = Refused l
+abbrev pub orLater : Finding → Finding → Finding
+orLater free later = later
+orLater (blocked m n) later = blocked m n
 
 -- The first of n legs for which a cell is found, and the cell; free where there is none.
-unfoldable pub firstBlocked : (ℕ → Found) → ℕ → RouteAnswer
-firstBlocked find zero = Free
-firstBlocked find (suc m) = orLater (firstBlocked find m) (answerAt m (find m))
+unfoldable pub firstBlocked : (ℕ → Found) → ℕ → Finding
+firstBlocked find zero = free
+firstBlocked find (suc m) = orLater (firstBlocked find m) (byLeg m (find m))
 
 -- The lowest cell number filled and touched on leg m.
 abbrev pub onLeg : (ℕ → Bool) → Grid → List Point → ℕ → Found
 onLeg filled g ps m = firstTouched filled g (legAt ps m)
 
 -- A route is free when no leg touches a filled cell. Otherwise it is blocked by the first such leg, at the lowest cell number filled and touched there.
-unfoldable pub tested : (ℕ → Bool) → Grid → List Point → RouteAnswer
+unfoldable pub tested : (ℕ → Bool) → Grid → List Point → Finding
 tested filled g ps = firstBlocked (onLeg filled g ps) (legCount ps)
 
 -- ---- the questions
@@ -111,25 +113,24 @@ unfoldable pub inside : Grid → Point → Bool
 inside g p = insideAxis g p xOf && (insideAxis g p yOf && insideAxis g p zOf)
 
 abbrev pub pointQuestion : Grid → List Point → ℕ → Question
-pointQuestion g ps m = inside g (pointAt ps m) otherwise PointOutside m
+pointQuestion g ps m = asksOf 10 m (inside g (pointAt ps m))
 
 -- Questions 9 and 10, in turn, of the numbers: the points come last, the lowest first.
 abbrev pub pointQuestions : Grid → List ℤ → List Question
-pointQuestions g ns = (countFits ns otherwise PointCount) ∷ ofEach (pointQuestion g (pointsOf ns)) (length (pointsOf ns))
+pointQuestions g ns = (9 asks countFits ns) ∷ ofEach (pointQuestion g (pointsOf ns)) (length (pointsOf ns))
 
 -- Questions 1 to 10, in turn, of a file s, a map of len bytes and numbers.
 abbrev pub routeQuestions : List ℕ → Header → ℕ → List ℤ → List Question
 routeQuestions s h len ns = fillQuestions s h len ++ pointQuestions (gridAt h) ns
 
-abbrev pub routeVerdict : List ℕ → ℕ → List ℤ → Verdict
-routeVerdict s len ns = firstBroken (routeQuestions s (headerOf version1 s) len ns)
+-- A route test gives its finding. Cells are read from the map as it is.
+unfoldable pub routeAnswer : (file map : List ℕ) (numbers : List ℤ) → Answer Finding
+routeAnswer s m ns =
+    let h = headerOf version1 s in
+    answered (routeQuestions s h (length m) ns) (tested (isFilled m) (gridAt h) (pointsOf ns))
 
--- ---- the answer
--- The answer of the test, or the first limit broken.
-abbrev pub answerOf : Verdict → RouteAnswer → RouteAnswer
-answerOf Passed a = a
-answerOf (Broken l) a = Refused l
-
--- Cells are read from the map as it is.
-unfoldable pub routeAnswer : (file map : List ℕ) (numbers : List ℤ) → RouteAnswer
-routeAnswer s m ns = answerOf (routeVerdict s (length m) ns) (tested (isFilled m) (gridAt (headerOf version1 s)) (pointsOf ns))
+-- ---- what each case of the code's enum says
+abbrev pub saidRoute : RouteAnswer → Answer Finding
+saidRoute Free = gives free
+saidRoute (Blocked m n) = gives (blocked m n)
+saidRoute (Refused l) = saidLimit l

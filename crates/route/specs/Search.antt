@@ -3,21 +3,19 @@ use mathlib.Core.Bool.{Bool, true, false}
 use mathlib.Core.List.{List, _∷_}
 use mathlib.Core.Path.{_≡_}
 use Prim.Native.Nat.{ℕ, _+_, _^_, _<_, _≤_}
-use lib.Dec.{leb}
 use lib.IntN.{ℤ, pos}
 use lib.Signed.{_<ℤ_}
 use Rattle.integers.specs.Within.{Within}
 use Rattle.frame.specs.declared.Header.{Header}
-use Rattle.frame.specs.declared.Limit.the-variants.{ShortMap}
-use Rattle.frame.specs.Questions.{Question, _otherwise_}
+use Rattle.frame.specs.Questions.{Question}
 use Rattle.overlap.specs.declared.BoxRange.{BoxRange}
 use Rattle.overlap.specs.declared.Setup.{Setup}
 use Rattle.overlap.specs.Geometry.{Triangle}
 use Rattle.overlap.specs.Range.{PicksBox}
 use Rattle.overlap.specs.Block.{edgesTest}
 use Rattle.overlap.specs.Setup.{formsIn}
-use Rattle.grid.specs.Map.{mapLength, isFilled}
-use Rattle.fill.specs.Steel.{gridAt, cellCount}
+use Rattle.grid.specs.Map.{isFilled}
+use Rattle.fill.specs.Steel.{gridAt, mapQuestion}
 use Rattle.route.specs.declared.Found.{Found}
 use Rattle.route.specs.Route.{pointCount, pointsOf, pointAt, firstTouched, inside, pointQuestions}
 
@@ -48,7 +46,7 @@ pub record ReadyRoute (h : Header) (ns : List ℤ) : Type 0 where
 
 -- Questions 8 to 10, in turn.
 abbrev pub lastQuestions : Header → ℕ → List ℤ → List Question
-lastQuestions h len ns = (leb (mapLength (cellCount h)) len otherwise ShortMap) ∷ pointQuestions (gridAt h) ns
+lastQuestions h len ns = mapQuestion h len ∷ pointQuestions (gridAt h) ns
 
 -- ---- a block of cells to search
 pub record InGrid (h : Header) (b : BoxRange) : Type 0 where

@@ -10,7 +10,8 @@ ghost use Prim.Native.Nat.{_+_, _*_, _≤_, _<_};
 ghost use lib.IntN.{pos, _+ℤ_, _*ℤ_};
 ghost use lib.ListN.{length};
 ghost use Rattle.integers.specs.Within.{Within};
-ghost use Rattle.frame.specs.Questions.{firstBroken, ofEach};
+ghost use Rattle.frame.specs.Limit.{gives};
+ghost use Rattle.frame.specs.Questions.{asked, answered, ofEach, saidVerdict};
 ghost use Rattle.overlap.specs.Bounds.{BoundedPoint, BoundedSetup};
 ghost use Rattle.overlap.specs.Geometry.{leg};
 ghost use Rattle.overlap.specs.Lent.{setupAt};
@@ -18,7 +19,7 @@ ghost use Rattle.overlap.specs.Setup.{pointOf};
 ghost use Rattle.grid.specs.Cells.{cellNumber};
 ghost use Rattle.grid.specs.Map.{mapLength, isFilled};
 ghost use Rattle.fill.specs.Steel.{gridAt, cellCount};
-ghost use Rattle.route.specs.Route.{pointCount, pointsOf, pointAt, firstTouched, tested, insideOn, inside, pointQuestion, answerOf, routeAnswer};
+ghost use Rattle.route.specs.Route.{pointCount, pointsOf, pointAt, firstTouched, tested, insideOn, inside, pointQuestion, routeAnswer, saidRoute};
 ghost use Rattle.route.specs.Demand.{DemandOf};
 ghost use Rattle.route.specs.Search.{originMax, edgeMax, Ready, ReadyRoute, lastQuestions, InGrid, NextCell, NextRow, Finds};
 
@@ -38,7 +39,7 @@ enum Found {
 
 // Puts questions 1 to 10, then tests the legs of the route in turn. The points are x, y and z in turn.
 pub fn test_route(file: &[u8], map: &[u8], numbers: &[i16]) -> RouteAnswer
-    ensures { λ r. ⌜ (r ≡ routeAnswer (now (file .entry)) (now (map .entry)) (now (numbers .entry))) × DemandOf (now (file .entry)) (now (map .entry)) (now (numbers .entry)) r ⌝ }
+    ensures { λ r. ⌜ (saidRoute r ≡ routeAnswer (now (file .entry)) (now (map .entry)) (now (numbers .entry))) × DemandOf (now (file .entry)) (now (map .entry)) (now (numbers .entry)) (saidRoute r) ⌝ }
 {
     match frame::check(file) {
         Checked::Refused(limit) => RouteAnswer::Refused(limit),
@@ -49,7 +50,7 @@ pub fn test_route(file: &[u8], map: &[u8], numbers: &[i16]) -> RouteAnswer
 // Questions 8 to 10, then the legs.
 fn test_accepted(header: Header, map: &[u8], numbers: &[i16]) -> RouteAnswer
     requires { ⌜ Ready header ⌝ }
-    ensures { λ r. ⌜ r ≡ answerOf (firstBroken (lastQuestions header (length (now (map .entry))) (now (numbers .entry)))) (tested (isFilled (now (map .entry))) (gridAt header) (pointsOf (now (numbers .entry)))) ⌝ }
+    ensures { λ r. ⌜ saidRoute r ≡ answered (lastQuestions header (length (now (map .entry))) (now (numbers .entry))) (tested (isFilled (now (map .entry))) (gridAt header) (pointsOf (now (numbers .entry)))) ⌝ }
 {
     match check_last(header, map.len(), numbers) {
         Verdict::Broken(limit) => RouteAnswer::Refused(limit),
@@ -60,7 +61,7 @@ fn test_accepted(header: Header, map: &[u8], numbers: &[i16]) -> RouteAnswer
 // Questions 8 to 10, of a map with `len` bytes.
 fn check_last(header: Header, len: usize, numbers: &[i16]) -> Verdict
     requires { ⌜ Ready header ⌝ }
-    ensures { λ r. ⌜ r ≡ firstBroken (lastQuestions header len (now (numbers .entry))) ⌝ }
+    ensures { λ r. ⌜ saidVerdict r ≡ asked (lastQuestions header len (now (numbers .entry))) ⌝ }
 {
     let cells = header.cells;
     let n = fill::cell_count(cells);
@@ -83,7 +84,7 @@ fn check_last(header: Header, len: usize, numbers: &[i16]) -> Verdict
 // Question 10, of the first `count` points.
 fn check_points(header: Header, numbers: &[i16], count: usize) -> Verdict
     requires { ⌜ Ready header × (count ≤ pointCount (now numbers)) ⌝ }
-    ensures { λ r. ⌜ r ≡ firstBroken (ofEach (pointQuestion (gridAt header) (pointsOf (now (numbers .entry)))) count) ⌝ }
+    ensures { λ r. ⌜ saidVerdict r ≡ asked (ofEach (pointQuestion (gridAt header) (pointsOf (now (numbers .entry)))) count) ⌝ }
 {
     let mut i = 0;
     while i < count {
@@ -147,7 +148,7 @@ fn along(origin: i64, i: usize, edge: i64) -> i64
 // Tests the legs in turn, up to the first that touches a filled cell.
 fn test_legs(header: Header, map: &[u8], numbers: &[i16]) -> RouteAnswer
     requires { ⌜ Ready header × (mapLength (cellCount header) ≤ length (now map)) × ReadyRoute header (now numbers) ⌝ }
-    ensures { λ r. ⌜ r ≡ tested (isFilled (now (map .entry))) (gridAt header) (pointsOf (now (numbers .entry))) ⌝ }
+    ensures { λ r. ⌜ saidRoute r ≡ gives (tested (isFilled (now (map .entry))) (gridAt header) (pointsOf (now (numbers .entry)))) ⌝ }
 {
     let legs = numbers.len() / 3 - 1;
     let mut m = 0;
@@ -194,11 +195,13 @@ fn search(header: Header, map: &[u8], forms: &[i64; 34], block: BoxRange) -> Fou
     let cells = header.cells;
     let mut found = Found::Nothing;
     let mut k = z.first;
+    // Left by its label at the first cell that is filled and touched: the lowest, as k, j and i rise.
     'scan: while k < z.end {
         let mut j = next_row(forms, k, y.first, y.end);
         'rows: while j < y.end {
             let row = grid::cell_number(cells.x, cells.y, 0, j, k);
             let mut i = next_cell(map, row, x.first, x.end);
+            // Cell i of the row is filled: next_cell skips the others. It is now tested for touch.
             'cells: while i < x.end {
                 if overlap::may_overlap(forms, i, i, j, j, k, k) {
                     found = Found::Cell(row + i);

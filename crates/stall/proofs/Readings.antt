@@ -1,7 +1,7 @@
 -- The numbers that a plain reading puts out are small. Assumes nothing.
 use mathlib.Core.Bool.{Bool, true, false, cond}
 use mathlib.Core.List.{List}
-use mathlib.Core.Path.{_≡_, refl}
+use mathlib.Core.Path.{_≡_, refl, sym, subst}
 use Prim.Native.Nat.{ℕ, _^_, _≤_}
 use native.Mathlib.Omega.{arith}
 use lib.Dec.{ltb}
@@ -9,16 +9,12 @@ use lib.IntN.{ℤ, pos}
 use Rattle.integers.proofs.Omega.{zarith, abs! }
 use Rattle.integers.specs.Within.{Within}
 use Rattle.bits.proofs.Fields.{field-lt}
-use Rattle.frame.specs.declared.Checked.{Checked}
-use Rattle.frame.specs.declared.Checked.the-variants.{Accepted, Refused}
 use Rattle.frame.specs.declared.Header.{Header}
-use Rattle.frame.specs.declared.Reading.{Reading}
-use Rattle.frame.specs.declared.Reading.the-variants as R
-use Rattle.frame.specs.declared.Reading.the-variants.{Found, NoRecord}
 use Rattle.frame.specs.Layout.{version1, kindAt, kindBits}
 use Rattle.frame.specs.Fields.{kindOf, triangleOf, fromRecord}
-use Rattle.frame.specs.Questions.{checked, reading, readingOf}
-use Rattle.frame.proofs.Accepted.{CoordinateRange, AcceptedFile, accepted, triangle-range}
+use Rattle.frame.specs.Limit.{Answer, gives, refused}
+use Rattle.frame.specs.Questions.{Contents, withRecord, noRecord, checked, reading}
+use Rattle.frame.proofs.Accepted.{CoordinateRange, AcceptedFile, accepted, triangle-range, reading-refused, reading-accepted}
 use Rattle.stall.specs.Numbers.{headerNumbers, recordNumbers, Small}
 
 coordinate : {z : ℤ} → CoordinateRange z → Within (2 ^ 24) z
@@ -62,19 +58,18 @@ triangle-small s =
     & tt
 
 -- The numbers of an answer are small, those of the header and those of the record.
-abbrev pub SmallReading : Reading → Type 0
-SmallReading (Found h t) = Small (headerNumbers h) × Small (recordNumbers t)
-SmallReading (NoRecord h) = Small (headerNumbers h)
-SmallReading (R.Refused l) = Unit {0}
+abbrev pub SmallReading : Answer Contents → Type 0
+SmallReading (gives (withRecord h t)) = Small (headerNumbers h) × Small (recordNumbers t)
+SmallReading (gives (noRecord h)) = Small (headerNumbers h)
+SmallReading (refused n p) = Unit {0}
 
 pub small-reading : (s : List ℕ) (i : ℕ) → SmallReading (reading s i)
-unfolding reading
 small-reading s i = go (checked s) refl
   where
-    at : (b : Bool) (h : Header) → AcceptedFile s h → SmallReading (cond b (Found h (triangleOf version1 (fromRecord version1 s i))) (NoRecord h))
+    at : (b : Bool) (h : Header) → AcceptedFile s h → SmallReading (gives (cond b (withRecord h (triangleOf version1 (fromRecord version1 s i))) (noRecord h)))
     at true h a = (accepted-small a, triangle-small (fromRecord version1 s i))
     at false h a = accepted-small a
 
-    go : (c : Checked) → checked s ≡ c → SmallReading (readingOf c s i)
-    go (Refused l) p = tt
-    go (Accepted h) p = at (ltb i (h .count)) h (accepted s h p)
+    go : (c : Answer Header) → checked s ≡ c → SmallReading (reading s i)
+    go (refused n p) e = subst SmallReading (sym (reading-refused s i e)) tt
+    go (gives h) e = subst SmallReading (sym (reading-accepted s i h e)) (at (ltb i (h .count)) h (accepted s h e))

@@ -1,15 +1,16 @@
--- The numbers that a plain reading puts out. Definitions only.
+-- The numbers that a plain reading puts out, and how a caller takes them back. Definitions only.
 use mathlib.Core.Bool.{cond}
 use mathlib.Core.List.{List, [], _∷_, _++_}
-use Prim.Native.Nat.{_^_}
-use lib.Dec.{leb}
-use lib.IntN.{ℤ, pos}
-use lib.ListN.{length, drop}
+use Prim.Native.Nat.{ℕ, _+_, _^_}
+use lib.Dec.{leb, eqb}
+use lib.IntN.{ℤ, pos, natAbs}
+use lib.ListN.{length, drop, getD}
 use Rattle.integers.specs.Within.{Within}
 use Rattle.frame.specs.declared.Header.{Header}
+use Rattle.frame.specs.declared.Position.{Position}
 use Rattle.frame.specs.declared.Triangle.{Triangle}
-use Rattle.frame.specs.declared.Reading.{Reading}
-use Rattle.frame.specs.declared.Reading.the-variants.{Found, NoRecord, Refused}
+use Rattle.frame.specs.Limit.{Answer, gives, refused}
+use Rattle.frame.specs.Questions.{Contents, withRecord, noRecord}
 
 -- The header's values: version, cells along x, y, z, cell edge, origin x, y, z, triangle count.
 abbrev pub headerNumbers : Header → List ℤ
@@ -24,17 +25,51 @@ recordNumbers t =
 
 -- What a reading puts out: the header's values and the record's, the header's alone where there is no such record, and
 -- nothing where the file is refused.
-abbrev pub readNumbers : Reading → List ℤ
-readNumbers (Found h t) = headerNumbers h ++ recordNumbers t
-readNumbers (NoRecord h) = headerNumbers h
-readNumbers (Refused l) = []
+abbrev pub contentsNumbers : Contents → List ℤ
+contentsNumbers (withRecord h t) = headerNumbers h ++ recordNumbers t
+contentsNumbers (noRecord h) = headerNumbers h
+
+abbrev pub readNumbers : Answer Contents → List ℤ
+readNumbers (gives c) = contentsNumbers c
+readNumbers (refused n p) = []
+
+-- How many they are: 19, or 9.
+abbrev pub numbersIn : Contents → ℕ
+numbersIn (withRecord h t) = 19
+numbersIn (noRecord h) = 9
 
 -- A lent list after numbers were put out: they stand at its start and the rest is as it was; all of it is as it was where
 -- it has no room for them.
 abbrev pub written : List ℤ → List ℤ → List ℤ
 written ns out = cond (leb (length ns) (length out)) (ns ++ drop (length ns) out) out
 
--- Each number is small enough for a signed number of 32 bits.
+-- ---- back: number i of a list, a natural number there, and a position from number i on
+abbrev pub at : List ℤ → ℕ → ℤ
+at ns i = getD ns i (pos 0)
+
+abbrev pub naturalAt : List ℤ → ℕ → ℕ
+naturalAt ns i = natAbs (at ns i)
+
+abbrev pub positionAt : List ℤ → ℕ → Position
+positionAt ns i = record { x = at ns i; y = at ns (i + 1); z = at ns (i + 2) }
+
+abbrev pub headerFrom : List ℤ → Header
+headerFrom ns = record {
+  version = naturalAt ns 0;
+  cells = record { x = naturalAt ns 1; y = naturalAt ns 2; z = naturalAt ns 3 };
+  edge = at ns 4;
+  origin = positionAt ns 5;
+  count = naturalAt ns 8;
+}
+
+abbrev pub recordFrom : List ℤ → Triangle
+recordFrom ns = record { kind = naturalAt ns 9; v0 = positionAt ns 10; v1 = positionAt ns 13; v2 = positionAt ns 16 }
+
+-- 19 numbers are a header's values and a record's; 9 are a header's.
+abbrev pub contentsFrom : (count : ℕ) → List ℤ → Contents
+contentsFrom n ns = cond (eqb n 19) (withRecord (headerFrom ns) (recordFrom ns)) (noRecord (headerFrom ns))
+
+-- ---- each number is small enough for a signed number of 32 bits
 abbrev pub Small : List ℤ → Type 0
 Small [] = Unit {0}
 Small (z ∷ zs) = Within (2 ^ 24) z × Small zs

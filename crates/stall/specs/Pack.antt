@@ -1,43 +1,79 @@
--- A call's answer as one number of 64 bits. Definitions only.
+-- A call's answer as one number of 64 bits: how it is packed, and how a caller unpacks it. Definitions only.
 use mathlib.Core.Bool.{cond}
-use Prim.Native.Nat.{ℕ, _+_, _*_, _%_, _^_}
-use lib.Dec.{leb}
-use Rattle.frame.specs.declared.Limit.{Limit}
-use Rattle.frame.specs.Limit.{refusalOf}
-use Rattle.frame.specs.declared.Reading.{Reading}
-use Rattle.frame.specs.declared.Reading.the-variants.{Found, NoRecord, Refused}
-use Rattle.fill.specs.declared.Filling.{Filling}
-use Rattle.fill.specs.declared.Filling.the-variants.{Filled, Refused}
-use Rattle.route.specs.declared.RouteAnswer.{RouteAnswer}
-use Rattle.route.specs.declared.RouteAnswer.the-variants.{Free, Blocked, Refused}
+use mathlib.Core.List.{List}
+use Prim.Native.Nat.{ℕ, _+_, _*_, _/_, _%_, _^_}
+use lib.Dec.{leb, eqb}
+use lib.IntN.{ℤ}
+use Rattle.frame.specs.Limit.{Answer, gives, refused}
+use Rattle.frame.specs.Questions.{Contents}
+use Rattle.route.specs.Route.{Finding, free, blocked}
+use Rattle.stall.specs.Numbers.{numbersIn, contentsFrom}
 
--- From the top: a tag of 8 bits, a number of 8 bits, a leg of 16 bits, and a low part of 32 bits. Numbers are 1 to 10 and legs at most 62; counts of cells are
--- at most 262,144, places below 4,096 and cells below 262,144. So no remainder taken here loses anything.
+-- From the top: a tag of 8 bits, a number of 8 bits, a leg of 16 bits, and 32 bits for a count, a place or a cell.
 abbrev pub packed : (tag number leg low : ℕ) → ℕ
 packed tag number leg low = (tag * 2 ^ 8 + number % 2 ^ 8) * 2 ^ 48 + (leg % 2 ^ 16 * 2 ^ 32 + low % 2 ^ 32)
 
--- A refusal: tag 1, the limit's number, the place.
-abbrev pub packedLimit : Limit → ℕ
-packedLimit l = packed 1 (refusalOf l .number) 0 (refusalOf l .place)
+-- What a caller takes out of an answer.
+abbrev pub tagOf : ℕ → ℕ
+tagOf r = r / 2 ^ 56
 
--- The answer of a fill: tag 0 and the count, or the refusal.
-abbrev pub packedFilling : Filling → ℕ
-packedFilling (Filled n) = packed 0 0 0 n
-packedFilling (Refused l) = packedLimit l
+abbrev pub numberOf : ℕ → ℕ
+numberOf r = r / 2 ^ 48 % 2 ^ 8
 
--- The answer of a route test: tag 2 alone for a free route, tag 3 with the leg and the cell for a blocked one, or the refusal.
-abbrev pub packedRoute : RouteAnswer → ℕ
-packedRoute Free = packed 2 0 0 0
-packedRoute (Blocked m n) = packed 3 0 m n
-packedRoute (Refused l) = packedLimit l
+abbrev pub legOf : ℕ → ℕ
+legOf r = r / 2 ^ 32 % 2 ^ 16
 
--- The answer of putting n numbers out where there is room for so many: tag 0 and n where they were written, tag 4 and n
--- where the room is too little.
-abbrev pub packedNumbers : (n room : ℕ) → ℕ
-packedNumbers n room = packed (cond (leb n room) 0 4) 0 0 n
+abbrev pub placeOf : ℕ → ℕ
+placeOf r = r % 2 ^ 32
 
--- The answer of a plain reading: 19 numbers with the record, 9 where there is no such record, or the refusal.
-abbrev pub packedReading : Reading → (room : ℕ) → ℕ
-packedReading (Found h t) room = packedNumbers 19 room
-packedReading (NoRecord h) room = packedNumbers 9 room
-packedReading (Refused l) room = packedLimit l
+abbrev pub cellOf : ℕ → ℕ
+cellOf r = r % 2 ^ 32
+
+abbrev pub countOf : ℕ → ℕ
+countOf r = r % 2 ^ 32
+
+-- A refusal: tag 1, the number, the place.
+abbrev pub packedRefusal : (number place : ℕ) → ℕ
+packedRefusal n p = packed 1 n 0 p
+
+-- A refusal where the tag is 1, and else another answer.
+abbrev pub orRefusal : {A : Type 0} → ℕ → Answer A → Answer A
+orRefusal r a = cond (eqb (tagOf r) 1) (refused (numberOf r) (placeOf r)) a
+
+-- ---- a fill: tag 0 and the count, or the refusal
+abbrev pub packedFilling : Answer ℕ → ℕ
+packedFilling (gives n) = packed 0 0 0 n
+packedFilling (refused n p) = packedRefusal n p
+
+unfoldable pub unpackedFilling : ℕ → Answer ℕ
+unpackedFilling r = orRefusal r (gives (countOf r))
+
+-- ---- a route test: tag 2 alone for a free route, tag 3 with the leg and the cell for a blocked one, or the refusal
+abbrev pub packedRoute : Answer Finding → ℕ
+packedRoute (gives free) = packed 2 0 0 0
+packedRoute (gives (blocked m n)) = packed 3 0 m n
+packedRoute (refused n p) = packedRefusal n p
+
+unfoldable pub unpackedRoute : ℕ → Answer Finding
+unpackedRoute r = orRefusal r (gives (cond (eqb (tagOf r) 2) free (blocked (legOf r) (cellOf r))))
+
+-- ---- a plain reading, which puts its numbers into a lent list
+-- They were written; or the list has no room for so many, and nothing was written.
+pub data Outcome : Type 0 where
+  wrote : Contents → Outcome
+  short : (wanted : ℕ) → Outcome
+
+-- By the reading's answer and the room.
+abbrev pub roomed : Answer Contents → (room : ℕ) → Answer Outcome
+roomed (gives c) room = gives (cond (leb (numbersIn c) room) (wrote c) (short (numbersIn c)))
+roomed (refused n p) room = refused n p
+
+-- Tag 0 and how many numbers were written; tag 4 and how many are wanted; or the refusal.
+abbrev pub packedReading : Answer Outcome → ℕ
+packedReading (gives (wrote c)) = packed 0 0 0 (numbersIn c)
+packedReading (gives (short n)) = packed 4 0 0 n
+packedReading (refused n p) = packedRefusal n p
+
+-- The caller looks at the list too.
+unfoldable pub unpackedReading : ℕ → List ℤ → Answer Outcome
+unpackedReading r out = orRefusal r (gives (cond (eqb (tagOf r) 4) (short (countOf r)) (wrote (contentsFrom (countOf r) out))))

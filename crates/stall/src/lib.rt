@@ -11,17 +11,19 @@ ghost use Prim.Native.Nat.{_<_, _≤_, _^_};
 ghost use lib.IntN.{pos};
 ghost use lib.ListN.{length, drop};
 ghost use Rattle.integers.specs.Within.{Within};
-ghost use Rattle.frame.specs.Questions.{reading};
+ghost use Rattle.frame.specs.Limit.{gives, refusalOf};
+ghost use Rattle.frame.specs.Questions.{withRecord, noRecord, reading};
 ghost use Rattle.fill.specs.Steel.{filling, filledBytes};
 ghost use Rattle.route.specs.Route.{routeAnswer};
+ghost use Rattle.route.specs.Demand.{DemandOf};
 ghost use Rattle.stall.specs.Numbers.{headerNumbers, recordNumbers, readNumbers, Small, written};
-ghost use Rattle.stall.specs.Pack.{packed, packedFilling, packedRoute, packedReading, packedNumbers, packedLimit};
+ghost use Rattle.stall.specs.Pack.{packed, packedRefusal, packedFilling, unpackedFilling, packedRoute, unpackedRoute, roomed, packedReading, unpackedReading};
 
 // The fill. The answer is the number of filled cells, with 0 in the top byte; or 1 in the top byte, the limit's number
 // in the next, and the place in the low 32 bits.
 #[no_mangle]
 pub extern "C" fn stall_fill(file: &[u8], map: &mut [u8]) -> u64
-    ensures { λ r. ⌜ (r ≡ packedFilling (filling (now (file .entry)) (now (map .entry)))) × (now (map .exit) ≡ filledBytes (now (file .entry)) (now (map .entry))) ⌝ }
+    ensures { λ r. ⌜ (r ≡ packedFilling (filling (now (file .entry)) (now (map .entry)))) × (unpackedFilling r ≡ filling (now (file .entry)) (now (map .entry))) × (now (map .exit) ≡ filledBytes (now (file .entry)) (now (map .entry))) ⌝ }
 {
     match fill::fill(file, map) {
         Filling::Filled(n) => pack(0, 0, 0, n),
@@ -33,7 +35,7 @@ pub extern "C" fn stall_fill(file: &[u8], map: &mut [u8]) -> u64
 // and the cell in the low 32 bits; or it is a refusal, as for the fill.
 #[no_mangle]
 pub extern "C" fn stall_route(file: &[u8], map: &[u8], numbers: &[i16]) -> u64
-    ensures { λ r. ⌜ r ≡ packedRoute (routeAnswer (now (file .entry)) (now (map .entry)) (now (numbers .entry))) ⌝ }
+    ensures { λ r. ⌜ (r ≡ packedRoute (routeAnswer (now (file .entry)) (now (map .entry)) (now (numbers .entry)))) × (unpackedRoute r ≡ routeAnswer (now (file .entry)) (now (map .entry)) (now (numbers .entry))) × DemandOf (now (file .entry)) (now (map .entry)) (now (numbers .entry)) (unpackedRoute r) ⌝ }
 {
     match route::test_route(file, map, numbers) {
         RouteAnswer::Free => pack(2, 0, 0, 0),
@@ -47,7 +49,7 @@ pub extern "C" fn stall_route(file: &[u8], map: &[u8], numbers: &[i16]) -> u64
 // has not so many; or a refusal, as for the fill.
 #[no_mangle]
 pub extern "C" fn stall_read(file: &[u8], i: usize, out: &mut [i32]) -> u64
-    ensures { λ r. ⌜ (r ≡ packedReading (reading (now (file .entry)) i) (length (now (out .entry)))) × (now (out .exit) ≡ written (readNumbers (reading (now (file .entry)) i)) (now (out .entry))) ⌝ }
+    ensures { λ r. ⌜ (r ≡ packedReading (roomed (reading (now (file .entry)) i) (length (now (out .entry))))) × (unpackedReading r (now (out .exit)) ≡ roomed (reading (now (file .entry)) i) (length (now (out .entry)))) × (now (out .exit) ≡ written (readNumbers (reading (now (file .entry)) i)) (now (out .entry))) ⌝ }
 {
     match frame::read(file, i) {
         Reading::Found(header, triangle) => write_both(header, triangle, out),
@@ -59,7 +61,7 @@ pub extern "C" fn stall_read(file: &[u8], i: usize, out: &mut [i32]) -> u64
 // The header's numbers into `out`, where it has room for them.
 fn write_header(header: Header, out: &mut [i32]) -> u64
     requires { ⌜ Small (headerNumbers header) ⌝ }
-    ensures { λ r. ⌜ (r ≡ packedNumbers 9 (length (now (out .entry)))) × (now (out .exit) ≡ written (headerNumbers header) (now (out .entry))) ⌝ }
+    ensures { λ r. ⌜ (r ≡ packedReading (roomed (gives (noRecord header)) (length (now (out .entry))))) × (now (out .exit) ≡ written (headerNumbers header) (now (out .entry))) ⌝ }
 {
     if out.len() < 9 {
         return pack(4, 0, 0, 9);
@@ -71,7 +73,7 @@ fn write_header(header: Header, out: &mut [i32]) -> u64
 // The header's numbers and a record's into `out`, where it has room for both.
 fn write_both(header: Header, triangle: Triangle, out: &mut [i32]) -> u64
     requires { ⌜ Small (headerNumbers header) × Small (recordNumbers triangle) ⌝ }
-    ensures { λ r. ⌜ (r ≡ packedNumbers 19 (length (now (out .entry)))) × (now (out .exit) ≡ written (headerNumbers header ++ recordNumbers triangle) (now (out .entry))) ⌝ }
+    ensures { λ r. ⌜ (r ≡ packedReading (roomed (gives (withRecord header triangle)) (length (now (out .entry))))) × (now (out .exit) ≡ written (headerNumbers header ++ recordNumbers triangle) (now (out .entry))) ⌝ }
 {
     if out.len() < 19 {
         return pack(4, 0, 0, 19);
@@ -153,7 +155,7 @@ fn narrow(x: i64) -> i32
 
 // A refusal's number and place, packed.
 fn pack_limit(limit: Limit) -> u64
-    ensures { λ r. ⌜ r ≡ packedLimit limit ⌝ }
+    ensures { λ r. ⌜ r ≡ packedRefusal (refusalOf limit .number) (refusalOf limit .place) ⌝ }
 {
     let refusal = limit.refusal();
     pack(1, refusal.number as usize, 0, refusal.place)

@@ -1,14 +1,14 @@
 -- `fill::fill_accepted` meets its contract. Assumes nothing.
 use borrow.Author.Needs.{needs}
 use mathlib.Core.List.{List, _++_}
-use mathlib.Core.Path.{_≡_, refl, ap, _∙_, subst}
+use mathlib.Core.Path.{_≡_, sym, ap, _∙_, subst}
 use Prim.Native.Nat.{ℕ}
 use native.Mathlib.Omega.{arith}
-use lib.ListN.{length, drop, replicate}
+use lib.ListN.{drop, replicate}
+use Rattle.frame.specs.Limit.{gives}
 use Rattle.frame.proofs.Accepted.{AcceptedFile, accepted}
 use Rattle.grid.specs.Map.{mapLength, isFilled, countBelow}
-use Rattle.fill.specs.declared.Filling.the-variants.{Filled}
-use Rattle.fill.specs.Steel.{cellCount, gridAt, steel, filledBy, filling, filledBytes}
+use Rattle.fill.specs.Steel.{cellCount, gridAt, steel, filledBy}
 use Rattle.fill.specs.Block.{AddsSteel}
 use Rattle.fill.proofs.Answers.{fill-short, fill-passed, fill-bytes, fill-count}
 use Rattle.fill.proofs.fill_accepted.Statement.{statement}
@@ -25,12 +25,11 @@ long : (c : tie.After-map-length) → c .map-length .result ≡ mapLength (cellC
 long c = c .map-length .ensures ∙ ap mapLength (c .before .cell-count .ensures .0)
 
 returns : tie.Need-returns
-unfolding filling filledBytes
 returns c =
     let m = c .before in
     let s = start m in
-    let short = fill-short (s .args .file .now) (length (s .args .map .now)) (s .args .header) (s .pre) (rw (long m) at (c .if1 .taken)) in
-    rw short (refl, refl)
+    let (said, left) = fill-short (s .args .file .now) (s .args .map .now) (s .args .header) (s .pre) (rw (long m) at (c .if1 .taken)) in
+    (sym said, sym left)
 
 -- the cleared map, to which the triangles were added
 added : (c : tie.After-fill-triangles) → let m = c .before .before .before .before .before .before .before in let s = start m in
@@ -44,7 +43,6 @@ added c =
     (k .clear .ensures ∙ ap (λ (n : ℕ). replicate n 0 ++ drop n (s .args .map .now)) (long m)) (c .fill-triangles .ensures)
 
 returns-2 : tie.Need-returns-2
-unfolding filling filledBytes
 returns-2 c =
     let f = c .before .before .before .before in
     let e = f .before .before .before .before .before .before in
@@ -53,13 +51,13 @@ returns-2 c =
     let h = s .args .header in
     let file = s .args .file .now in
     let room = rw (long m) at (e .if1 .left) in
-    let passed = fill-passed file (length (s .args .map .now)) h (s .pre) room in
+    let (said, left) = fill-passed file (s .args .map .now) h (s .pre) room in
     let new = f .fill-triangles .last .1 .1 .0 in
-    let p = filledBy (gridAt h) (steel file h) in
-    rw (passed, file-is s .header) (
-      ap Filled (c .count .ensures ∙ ap (countBelow (isFilled new)) (m .before .cell-count .ensures .0) ∙ fill-count p (cellCount h) (s .args .map .now) new room (added f)),
+    let p = filledBy (gridAt h) (steel file h) in (
+      ap gives (c .count .ensures ∙ ap (countBelow (isFilled new)) (m .before .cell-count .ensures .0) ∙ fill-count p (cellCount h) (s .args .map .now) new room (added f)) ∙ sym said,
       fill-bytes p (cellCount h) (s .args .map .now) new room (added f)
-          (λ i. omega (arith, m .before .before .before .slice-known .given i)) (λ i. omega (arith, c .before .before .slice-known3 .given i)),
+          (λ i. omega (arith, m .before .before .before .slice-known .given i)) (λ i. omega (arith, c .before .before .slice-known3 .given i))
+          ∙ sym left,
     )
 
 pub fill-accepted-spec : {M : Type 1} → statement M

@@ -5,7 +5,7 @@ use Prim.Native.Nat.{_-_}
 use lib.ListN.{length}
 use Rattle.overlap.specs.declared.BoxRange.{BoxRange}
 use Rattle.overlap.specs.Lent.{setupAt, cellsX, cellsY}
-use Rattle.fill.specs.Block.{blockOf, NonEmpty, Room, Fills}
+use Rattle.fill.specs.Block.{NonEmpty, Room, Fills}
 use Rattle.fill.proofs.Blocks.{by-ends}
 use Rattle.fill.proofs.Ways.{fills-none}
 use Rattle.fill.proofs.fill_box.Statement.{statement}

@@ -6,10 +6,10 @@ use Prim.Native.Nat.{ℕ}
 use native.Mathlib.Nat.{le-of-eq}
 use Rattle.frame.specs.declared.Layout.{Layout}
 use Rattle.frame.specs.declared.Header.{Header}
-use Rattle.frame.specs.declared.Checked.the-variants.{Accepted}
 use Rattle.frame.specs.Fields.{Usable, headerOf}
 use Rattle.frame.specs.Layout.{version1}
-use Rattle.frame.specs.Questions.{Bounded, firstBroken, ofEach, headerQuestions, kindQuestion}
+use Rattle.frame.specs.Limit.{gives}
+use Rattle.frame.specs.Questions.{Bounded, asked, ofEach, headerQuestions, kindQuestion, saidVerdict}
 use Rattle.frame.proofs.Bounds.{version1-usable, header-bounded}
 use Rattle.frame.proofs.Accepted.{checked-by, header-passed}
 use Rattle.frame.proofs.check.Statement.{statement}
@@ -22,49 +22,49 @@ usable c = rw (c .version-1 .ensures) version1-usable
 abbrev bytes : tie.After-read-header → List ℕ
 bytes c = c .before .before .before .args .file .now
 
-header : (c : tie.After-read-header) → c .read-header .result ≡ headerOf version1 (bytes c)
-header c = c .read-header .ensures ∙ ap (λ (l : Layout). headerOf l (bytes c)) (c .before .version-1 .ensures)
+header : (c : tie.After-read-header) → c .read-header .result .header ≡ headerOf version1 (bytes c)
+header c = c .read-header .ensures .header ∙ ap (λ (l : Layout). headerOf l (bytes c)) (c .before .version-1 .ensures)
 
-bounded : (c : tie.After-read-header) → Bounded (c .read-header .result)
+bounded : (c : tie.After-read-header) → Bounded (c .read-header .result .header)
 bounded c = rw (header c) (header-bounded version1 version1-usable (bytes c))
 
 -- what the two parts of the check say
-first : (c : tie.After-check-header) → let s = bytes (c .before) in c .check-header .result ≡ firstBroken (headerQuestions version1 (headerOf version1 s) s)
+first : (c : tie.After-check-header) → let s = bytes (c .before .before) in saidVerdict (c .check-header .result) ≡ asked (headerQuestions version1 (headerOf version1 s) s)
 first c =
     c .check-header .ensures
-    ∙ ap₂ (λ (l : Layout) (h : Header). firstBroken (headerQuestions l h (bytes (c .before)))) (c .before .before .version-1 .ensures) (header (c .before))
+    ∙ ap₂ (λ (l : Layout) (h : Header). asked (headerQuestions l h (bytes (c .before .before)))) (c .before .before .before .version-1 .ensures) (header (c .before .before))
 
-second : (c : tie.After-check-kinds) → let h = c .before .before .before .before in let s = bytes h in
-    c .check-kinds .result ≡ firstBroken (ofEach (kindQuestion version1 s) (headerOf version1 s .count))
+second : (c : tie.After-check-kinds) → let h = c .before .before .before .before .before in let s = bytes h in
+    saidVerdict (c .check-kinds .result) ≡ asked (ofEach (kindQuestion version1 s) (headerOf version1 s .count))
 second c =
-    let h = c .before .before .before .before in
+    let h = c .before .before .before .before .before in
     c .check-kinds .ensures
-    ∙ ap₂ (λ (l : Layout) (n : ℕ). firstBroken (ofEach (kindQuestion l (bytes h)) n)) (h .before .version-1 .ensures) (ap (λ (x : Header). x .count) (header h))
+    ∙ ap₂ (λ (l : Layout) (n : ℕ). asked (ofEach (kindQuestion l (bytes h)) n)) (h .before .version-1 .ensures) (ap (λ (x : Header). x .count) (header h))
 
 check-kinds-requires : tie.Need-check-kinds-requires
 check-kinds-requires c κs =
     let v = c .before .before in
-    let h = v .before in
-    let all = header-passed (h .before .version-1 .result) (h .read-header .result) (bytes h) (sym (v .check-header .ensures) ∙ c .enum-told .given .1) in
+    let h = v .before .before in
+    let all = header-passed (h .before .version-1 .result) (h .read-header .result .header) (bytes h) (sym (v .check-header .ensures) ∙ ap saidVerdict (c .enum-told .given .1)) in
     (usable (h .before), bounded h .count, le-of-eq (sym (all .whole)))
 
 returns : tie.Need-returns
 returns c =
     let v = c .before .before .before in
-    rw (checked-by (bytes (v .before)), sym (first v) ∙ c .before .limit .given .1)
+    rw (checked-by (bytes (v .before .before)), sym (first v) ∙ ap saidVerdict (c .before .limit .given .1))
 
 returns-2 : tie.Need-returns-2
 returns-2 c =
     let k = c .before .before .before in
     let v = k .before .before .before in
-    rw (checked-by (bytes (v .before)), sym (first v) ∙ k .before .enum-told .given .1, sym (second k) ∙ c .before .kind .given .1)
+    rw (checked-by (bytes (v .before .before)), sym (first v) ∙ ap saidVerdict (k .before .enum-told .given .1), sym (second k) ∙ ap saidVerdict (c .before .kind .given .1))
 
 returns-3 : tie.Need-returns-3
 returns-3 c =
     let k = c .before .before in
     let v = k .before .before .before in
-    rw (checked-by (bytes (v .before)), sym (first v) ∙ k .before .enum-told .given .1, sym (second k) ∙ c .enum-told2 .given .1)
-    (ap Accepted (header (v .before)))
+    rw (checked-by (bytes (v .before .before)), sym (first v) ∙ ap saidVerdict (k .before .enum-told .given .1), sym (second k) ∙ ap saidVerdict (c .enum-told2 .given .1))
+    (ap gives (header (v .before .before)))
 
 pub check-spec : {M : Type 1} → statement M
 check-spec =
@@ -72,7 +72,7 @@ check-spec =
     (tie.spec
     (λ c κs. search needs)
     (λ c κs. usable c)
-    (λ c κs. (usable (c .before), bounded c))
+    (λ c κs. (usable (c .before .before), bounded (c .before), c .before .read-header .ensures .reserved))
     (λ c. search needs)
     (λ c. search needs)
     check-kinds-requires

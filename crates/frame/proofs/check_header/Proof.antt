@@ -13,7 +13,7 @@ use mir.Facts.{toZ-ofZ}
 use Rattle.integers.proofs.Bounds.{within-fits}
 use Rattle.integers.proofs.Omega.{le-true, le-false, true-lt, false-lt}
 use Rattle.frame.specs.Fields.{reservedOf}
-use Rattle.frame.specs.Questions.{firstBroken, extentFits}
+use Rattle.frame.specs.Questions.{answered, extentFits}
 use Rattle.frame.proofs.check_header.Statement.{statement}
 use Rattle.frame.proofs.check_header.Tie as tie
 
@@ -28,7 +28,7 @@ abbrev at2 : tie.Else3 → tie.Else2
 at2 c = c .before .before .before
 
 abbrev at3 : tie.Else4 → tie.Else3
-at3 c = c .before .before
+at3 c = c .before
 
 abbrev at4 : tie.Else5 → tie.Else4
 at4 c = c .before .before .before
@@ -57,21 +57,21 @@ yes3 c =
     true-lt (pos 0) h (le-false h (pos 0) (rw (edge-back s) at (c .if3 .left)))
 
 yes4 : (c : tie.Else4) → let s = at0 (at1 (at2 (at3 c))) in eqb (reservedOf (s .args .layout) (s .args .file .now)) 0 ≡ true
-yes4 c = eq-eqb _ _ (sym (c .before .read-reserved .ensures) ∙ c .if4 .left)
+yes4 c = let s = at0 (at1 (at2 (at3 c))) in eq-eqb _ _ (sym (s .pre .2) ∙ c .if4 .left)
 
 yes5 : (c : tie.Else5) → let s = at0 (at1 (at2 (at3 (at4 c)))) in extentFits (s .args .layout .farthest) (s .args .header) ≡ true
 yes5 c = sym (extent (c .before)) ∙ not-false (c .before .extent-fits .result) (c .if5 .left)
 
 returns : tie.Need-returns
-unfolding firstBroken
+unfolding answered
 returns c = rw (lt-leb _ _ (c .if1 .taken))
 
 returns-2 : tie.Need-returns-2
-unfolding firstBroken
+unfolding answered
 returns-2 c = rw (yes1 (c .before .before), ne-eqb _ _ (c .if2 .taken))
 
 returns-3 : tie.Need-returns-3
-unfolding firstBroken
+unfolding answered
 returns-3 c =
     let e2 = c .before .before .before in
     let s = at0 (at1 e2) in
@@ -79,17 +79,18 @@ returns-3 c =
     rw (yes1 (at1 e2), yes2 e2, false-lt (pos 0) h (le-true h (pos 0) (rw (edge-back s) at (c .if3 .taken))))
 
 returns-4 : tie.Need-returns-4
-unfolding firstBroken
+unfolding answered
 returns-4 c =
-    let e3 = c .before .before in
-    let no4 = ne-eqb _ 0 (λ e. c .if4 .taken (c .before .read-reserved .ensures ∙ e)) in
+    let e3 = c .before in
+    let s = at0 (at1 (at2 e3)) in
+    let no4 = ne-eqb _ 0 (λ e. c .if4 .taken (s .pre .2 ∙ e)) in
     rw (yes1 (at1 (at2 e3)), yes2 (at2 e3), yes3 e3, no4)
 
 extent-fits-requires : tie.Need-extent-fits-requires
 extent-fits-requires c κs = search needs
 
 returns-5 : tie.Need-returns-5
-unfolding firstBroken
+unfolding answered
 returns-5 c =
     let e4 = c .before .before .before in
     let e3 = at3 e4 in
@@ -100,7 +101,7 @@ record-start-requires : tie.Need-record-start-requires
 record-start-requires c κs = let s = at0 (at1 (at2 (at3 (at4 c)))) in (s .pre .0, s .pre .1 .count)
 
 returns-6 : tie.Need-returns-6
-unfolding firstBroken
+unfolding answered
 returns-6 c =
     let e5 = c .before .before in
     let e4 = at4 e5 in
@@ -109,7 +110,7 @@ returns-6 c =
     rw (yes1 (at1 (at2 e3)), yes2 (at2 e3), yes3 e3, yes4 e4, yes5 e5, no6)
 
 returns-7 : tie.Need-returns-7
-unfolding firstBroken
+unfolding answered
 returns-7 c =
     let e5 = c .before .before in
     let e4 = at4 e5 in
@@ -124,7 +125,6 @@ check-header-spec =
     returns
     returns-2
     returns-3
-    (λ c κs. search needs)
     returns-4
     extent-fits-requires
     returns-5

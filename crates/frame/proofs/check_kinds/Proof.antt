@@ -7,16 +7,15 @@ use native.Mathlib.Nat.{mul-le-mul-left, le-of-lt}
 use native.Mathlib.Omega.{arith}
 use lib.Dec.{ltb}
 use Rattle.frame.specs.declared.Layout.{Layout}
-use Rattle.frame.specs.declared.Verdict.the-variants.{Passed}
 use Rattle.frame.specs.Fields.{kindOf, fromRecord}
 use Rattle.frame.specs.Layout.{recordStart}
-use Rattle.frame.specs.Questions.{firstBroken, ofEach, kindQuestion}
+use Rattle.frame.specs.Questions.{passed, asked, ofEach, kindQuestion}
 use Rattle.frame.proofs.Asking.{each-none, each-more, each-no}
 use Rattle.frame.proofs.check_kinds.Statement.{statement}
 use Rattle.frame.proofs.check_kinds.Tie as tie
 
 abbrev Inv-loop : tie.InvT-loop
-Inv-loop layout file count i₀ i = (i ≤ count) × (firstBroken (ofEach (kindQuestion layout file) i) ≡ Passed)
+Inv-loop layout file count i₀ i = (i ≤ count) × (asked (ofEach (kindQuestion layout file) i) ≡ passed)
 
 abbrev μ-loop : tie.MeasureT-loop
 μ-loop layout file count i₀ i = count - i
@@ -55,7 +54,7 @@ returns-2 : tie.Need-returns-2 Inv-loop μ-loop
 returns-2 c =
     let s = c .before .before .before in
     let e : c .before .loop .i ≡ s .args .count = omega arith in
-    sym (c .before .loop .inv .1) ∙ ap (λ (n : ℕ). firstBroken (ofEach (kindQuestion (s .args .layout) (s .args .file .now)) n)) e
+    sym (c .before .loop .inv .1) ∙ ap (λ (n : ℕ). asked (ofEach (kindQuestion (s .args .layout) (s .args .file .now)) n)) e
 
 pub check-kinds-spec : {M : Type 1} → statement M
 check-kinds-spec =

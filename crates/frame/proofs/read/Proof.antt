@@ -6,12 +6,12 @@ use mathlib.Core.Path.{_≡_, sym, ap, ap₂, _∙_}
 use Prim.Native.Nat.{ℕ}
 use native.Mathlib.Omega.{arith}
 use Rattle.frame.specs.declared.Layout.{Layout}
-use Rattle.frame.specs.declared.Checked.the-variants.{Accepted}
-use Rattle.frame.specs.declared.Reading.the-variants.{Found}
+use Rattle.frame.specs.declared.Triangle.{Triangle}
 use Rattle.frame.specs.Fields.{triangleOf, fromRecord}
-use Rattle.frame.specs.Questions.{checked, reading}
+use Rattle.frame.specs.Limit.{gives}
+use Rattle.frame.specs.Questions.{checked, withRecord, saidCheck}
 use Rattle.frame.proofs.Bounds.{version1-usable}
-use Rattle.frame.proofs.Accepted.{accepted}
+use Rattle.frame.proofs.Accepted.{accepted, reading-refused, reading-accepted}
 use Rattle.frame.proofs.read.Statement.{statement}
 use Rattle.frame.proofs.read.Tie as tie
 
@@ -19,8 +19,8 @@ abbrev bytes : tie.After-check → List ℕ
 bytes c = c .before .before .args .file .now
 
 -- the file was accepted, with the header that the check gave
-yes : (c : tie.After-header) → checked (bytes (c .before .before)) ≡ Accepted (c .header .given .0 .0)
-yes c = sym (c .before .before .check .ensures) ∙ c .header .given .1
+yes : (c : tie.After-header) → checked (bytes (c .before .before)) ≡ gives (c .header .given .0 .0)
+yes c = sym (c .before .before .check .ensures) ∙ ap saidCheck (c .header .given .1)
 
 from-record-requires : tie.Need-from-record-requires
 from-record-requires c κs =
@@ -30,23 +30,24 @@ from-record-requires c κs =
     rw (c .version-1 .ensures) (version1-usable, omega (arith, a .count), omega (arith, a .whole))
 
 returns : tie.Need-returns
-unfolding reading
-returns c = rw (sym (c .before .before .before .check .ensures) ∙ c .before .limit .given .1)
+returns c =
+    let k = c .before .before .before in
+    sym (reading-refused (bytes k) (k .before .before .args .i) (sym (k .check .ensures) ∙ ap saidCheck (c .before .limit .given .1)))
 
 returns-2 : tie.Need-returns-2
-unfolding reading
 returns-2 c =
     let l = c .before .before in
     let h = l .before .before .before .before in
     let s = bytes (h .before .before) in
     let i = h .before .before .before .before .args .i in
     let part = c .before .from-record .ensures ∙ ap (λ (m : Layout). fromRecord m s i) (l .version-1 .ensures) in
-    rw (yes h, lt-ltb i (h .header .given .0 .0 .count) (l .before .if1 .taken))
-    (ap (Found (h .header .given .0 .0)) (c .read-triangle .ensures ∙ ap₂ triangleOf (l .version-1 .ensures) part))
+    rw (reading-accepted s i (h .header .given .0 .0) (yes h), lt-ltb i (h .header .given .0 .0 .count) (l .before .if1 .taken))
+    (ap (λ (t : Triangle). gives (withRecord (h .header .given .0 .0) t)) (c .read-triangle .ensures ∙ ap₂ triangleOf (l .version-1 .ensures) part))
 
 returns-3 : tie.Need-returns-3
-unfolding reading
-returns-3 c = rw (yes (c .before .before .before), le-ltb _ _ (c .if1 .left))
+returns-3 c =
+    let h = c .before .before .before in
+    rw (reading-accepted (bytes (h .before .before)) (h .before .before .before .before .args .i) (h .header .given .0 .0) (yes h), le-ltb _ _ (c .if1 .left))
 
 pub read-spec : {M : Type 1} → statement M
 read-spec =

@@ -1,26 +1,29 @@
 -- `list_map::list_cells` meets its contract: each piece but the last passes a cell, and there are at most 262,144. Assumes nothing.
 use borrow.Author.Needs.{needs}
-use mathlib.Core.Path.{_≡_, sym, _∙_}
+use mathlib.Core.Path.{_≡_, sym, ap, _∙_}
 use Prim.Native.Nat.{_-_, _<_}
 use native.Mathlib.Omega.{arith}
 use lib.ListN.{length}
+use Rattle.listing.specs.Listing.{saidPiece}
 use Rattle.listing.proofs.Whole.{goes-on}
 use Rattle.list_map.proofs.list_cells.Statement.{statement}
 use Rattle.list_map.proofs.list_cells.Tie as tie
 
 abbrev Inv-loop : tie.InvT-loop
-Inv-loop map cells out₀ from₀ out from = length out ≡ length out₀
+Inv-loop map out₀ left₀ out left = length out ≡ length out₀
 
 abbrev μ-loop : tie.MeasureT-loop
-μ-loop map cells out₀ from₀ out from = 262144 - from
+μ-loop map out₀ left₀ out left = 262144 - left .from
 
 -- the cell to go on from
-passed : (c : tie.After-next Inv-loop μ-loop) → (c .before .before .before .before .before .before .loop .from < c .next .given .0 .0) × (c .next .given .0 .0 < 262144)
+passed : (c : tie.After-len Inv-loop μ-loop) → let next = c .len .given .0 .1 .0 in
+    (c .before .before .before .before .before .before .loop .left .from < next .from) × (next .from < 262144)
 passed c =
     let k = c .before .before .before .before in
     let l = k .before .before in
     let a = l .before .before .before .args in
-    goes-on (a .map .now) (a .cells) (l .loop .from) (l .loop .out) (c .next .given .0 .0) (c .next .given .0 .1 .0) (omega arith) (sym (k .more .ensures .0) ∙ c .next .given .1)
+    goes-on (a .map .now) (l .loop .left) (l .loop .out) (c .len .given .0 .0) (c .len .given .0 .1 .0) (omega arith)
+    (sym (k .more .ensures .0) ∙ ap saidPiece (c .len .given .1))
 
 pub list-cells-spec : {M : Type 1} → statement M
 list-cells-spec =

@@ -1,62 +1,81 @@
--- `listing::begin_accepted` meets its contract, case by case of the fill's answer. Assumes nothing.
+-- `listing::begin_accepted` meets its contract: question 8, the output's length, then the fill. Assumes nothing.
 use borrow.Author.Needs.{needs}
 use mathlib.Core.Path.{_≡_, sym, ap, _∙_}
 use Prim.Native.Nat.{ℕ}
 use native.Mathlib.Omega.{arith}
 use lib.ListN.{length}
+use Rattle.frame.specs.Limit.{gives}
 use Rattle.frame.proofs.Accepted.{accepted}
-use Rattle.listing.specs.declared.Begun.the-variants.{More, Whole}
+use Rattle.grid.specs.Map.{mapLength}
+use Rattle.fill.specs.Steel.{cellCount, saidFilling}
+use Rattle.fill.proofs.Answers.{left-refused, fill-short}
 use Rattle.listing.specs.Text.{placed}
-use Rattle.listing.specs.Listing.{filledLine, refusedLine, firstLine}
+use Rattle.listing.specs.Listing.{firstLine, more, allOf}
+use Rattle.listing.proofs.Starts.{start-refused, start-short, start-put, first-is}
 use Rattle.listing.proofs.begin_accepted.Statement.{statement}
 use Rattle.listing.proofs.begin_accepted.Tie as tie
 
-cell-count-requires : tie.Need-cell-count-requires
-cell-count-requires c κs =
-    let s = c .before .before .before .before in
-    let a = accepted (s .args .file .now) (s .args .header) (s .pre .0) in
-    (a .x .most, a .y .most, a .z .most)
+abbrev entry : tie.After-map-length → tie.Start
+entry c = c .before .before .before .before .before .before
+
+-- the map's length
+long : (c : tie.After-map-length) → c .map-length .result ≡ mapLength (cellCount (entry c .args .header))
+long c = c .map-length .ensures ∙ ap mapLength (c .before .cell-count .ensures .0)
 
 returns : tie.Need-returns
-unfolding firstLine
 returns c =
-    let put = c .before .before in
-    let arm = put .before .before .before in
-    let f = arm .before .before .before .before in
-    let limit = arm .limit .given .0 .0 in
-    let p = put .put-refused .ensures in
-    let len : put .put-refused .result ≡ length (refusedLine limit) = omega (arith, p .next) in
-    rw (sym (sym (arm .limit .given .1) ∙ f .fill .ensures .0)) (ap Whole len, f .fill .ensures .1, p .bytes)
+    let s = entry (c .before) in
+    let a = s .args in
+    start-refused (a .file .now) (a .map .now) (a .out .now)
+    (fill-short (a .file .now) (a .map .now) (a .header) (s .pre) (rw (long (c .before)) at (c .if1 .taken)) .0)
 
 returns-2 : tie.Need-returns-2
-unfolding firstLine
 returns-2 c =
+    let e = c .before in
+    let s = entry (e .before) in
+    let a = s .args in
+    start-short (a .file .now) (a .map .now) (a .out .now) (a .header) (s .pre) (rw (long (e .before)) at (e .if1 .left)) (c .if2 .taken)
+
+returns-3 : tie.Need-returns-3
+returns-3 c =
+    let f = c .before .before .before .before .before in
+    let a = entry (f .before .before .before .before) .args in
+    let refused = sym (f .fill .ensures .0) ∙ ap saidFilling (c .before .limit .given .1) in
+    let b = start-refused (a .file .now) (a .map .now) (a .out .now) refused in
+    (b .0, f .fill .ensures .1 ∙ left-refused (a .file .now) (a .map .now) refused ∙ b .1, b .2)
+
+returns-4 : tie.Need-returns-4
+returns-4 c =
     let put = c .before .before in
     let arm = put .before .before .before in
     let f = arm .before .before .before .before in
-    let k = f .before .before in
-    let s = k .before .before .before .before .before in
-    let count = arm .count .given .0 .0 in
+    let e = f .before .before in
+    let m = e .before .before in
+    let s = entry m in
+    let a = s .args in
+    let room = rw (long m) at (e .before .if1 .left) in
+    let said = sym (ap saidFilling (arm .count .given .1)) ∙ f .fill .ensures .0 in
+    let line = first-is (a .file .now) (a .map .now) (a .out .now) (a .header) (s .pre) room said (m .before .cell-count .ensures .0) in
+    let b = start-put (a .file .now) (a .map .now) (a .out .now) (a .header) (s .pre) room (e .if2 .left) in
     let p = put .put-filled .ensures in
-    let all = k .cell-count .ensures .0 in
-    let line = filledLine count in
-    let len : put .put-filled .result ≡ length (line (k .cell-count .result)) = omega (arith, p .next) in
-    rw (sym (sym (arm .count .given .1) ∙ f .fill .ensures .0))
-    (ap (λ (n : ℕ). More n (s .args .header .cells)) (len ∙ ap (λ (n : ℕ). length (line n)) all), f .fill .ensures .1, p .bytes ∙ ap (λ (n : ℕ). placed (s .args .out .now) 0 (line n)) all)
+    let len : put .put-filled .result ≡ length (firstLine (a .file .now) (a .header)) = omega (arith, p .next, ap length line) in
+    let says = ap (λ (n : ℕ). gives (more n (allOf (a .header)))) len ∙ b .0 in
+    (says, f .fill .ensures .1 ∙ b .1, p .bytes ∙ ap (placed (a .out .now) 0) line ∙ b .2)
 
 pub begin-accepted-spec : {M : Type 1} → statement M
 begin-accepted-spec =
     tie.close
     (tie.spec
-    cell-count-requires
+    (λ c κs. let s = c .before .before .before .before in let f = accepted (s .args .file .now) (s .args .header) (s .pre) in (f .x .most, f .y .most, f .z .most))
     (λ c κs. search needs)
-    (λ c. search needs)
-    (λ c κs. search needs)
-    (λ c. search needs)
-    (λ c κs. search needs)
-    (λ c. search needs)
-    (λ c. search needs)
     returns
+    returns-2
+    (λ c κs. search needs)
     (λ c. search needs)
     (λ c. search needs)
-    returns-2)
+    (λ c κs. search needs)
+    (λ c. search needs)
+    returns-3
+    (λ c. search needs)
+    (λ c. search needs)
+    returns-4)

@@ -2,37 +2,25 @@
 use borrow.Author.Needs.{needs}
 use borrow.Author.Tests.{lt-ltb, le-ltb}
 use mathlib.Core.Bool.{true}
-use mathlib.Core.List.{List}
-use mathlib.Core.Path.{_≡_, refl, sym, ap, _∙_}
-use Prim.Native.Nat.{ℕ, _-_, _<_, _≤_}
-use native.Mathlib.Omega.{arith}
+use mathlib.Core.Path.{_≡_, refl, sym, _∙_}
 use lib.ListN.{length}
-use Rattle.listing.specs.Text.{placed}
-use Rattle.listing.specs.Listing.{linesFrom, lineOf, usable, cellsIn, nextCell, pieceText, pieceBy, piece, pieceBytes}
+use Rattle.listing.specs.Listing.{usable, partBy, piece, pieceBytes}
+use Rattle.listing.proofs.Advance.{advance-piece}
 use Rattle.listing.proofs.Usable.{usable-grid}
 use Rattle.listing.proofs.more.Statement.{statement}
 use Rattle.listing.proofs.more.Tie as tie
 
-test : (c : tie.Then1) → let a = c .before .before .before .before .args in usable (length (a .map .now)) (a .cells) ≡ true
+test : (c : tie.Then1) → let a = c .before .before .before .before .before .args in usable (length (a .map .now)) (a .rest .cells) ≡ true
 test c = sym (c .before .is-usable .ensures) ∙ c .if1 .taken
 
 -- what was put, by the definition of a piece
-put : (c : tie.After-put-cells) → let a = c .before .before .before .before .before .before .args in
-    (pieceBy (c .put-cells .result .cell) (cellsIn (a .cells)) (c .put-cells .result .at) ≡ piece (a .map .now) (a .cells) (a .from) (a .out .now))
-    × (c .put-cells .last .1 .1 .1 .0 ≡ pieceBytes (a .map .now) (a .cells) (a .from) (a .out .now))
-unfolding piece pieceBytes nextCell pieceText
+put : (c : tie.After-put-cells) → let a = c .before .before .before .before .before .before .before .args in
+    (partBy (c .put-cells .result .at) (record { cells = a .rest .cells; from = c .put-cells .result .cell }) ≡ piece (a .map .now) (a .rest) (a .out .now))
+    × (c .put-cells .last .1 .1 .1 .0 ≡ pieceBytes (a .map .now) (a .rest) (a .out .now))
 put c =
     let t = c .before .before in
-    let a = t .before .before .before .before .args in
-    let p = c .put-cells .ensures .0 in
-    let end = c .put-cells .ensures .1 in
-    let next = c .put-cells .result .cell in
-    let text : ℕ → List ℕ = λ n. linesFrom (lineOf (a .map .now) (a .cells)) (a .from) (n - a .from) in
-    let len : c .put-cells .result .at ≡ length (text next) = omega (arith, p .moved) in
-    rw (test t) (
-      ap (pieceBy next (cellsIn (a .cells))) len ∙ ap (λ (n : ℕ). pieceBy n (cellsIn (a .cells)) (length (text n))) end,
-      p .bytes ∙ ap (λ (n : ℕ). placed (a .out .now) 0 (text n)) end,
-    )
+    let a = t .before .before .before .before .before .args in
+    advance-piece (a .map .now) (a .rest) (test t) (c .put-cells .ensures .0) (c .put-cells .ensures .1)
 
 cell-count-requires : tie.Need-cell-count-requires
 cell-count-requires c κs =

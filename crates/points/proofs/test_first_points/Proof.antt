@@ -53,7 +53,8 @@ use denote.Exit.{yes}
 use denote.Triple.Clauses.{ensured, lasts}
 use borrow.Table.OneValue.{part-in, part-out}
 use Rattle.route.specs.declared.RouteAnswer.{RouteAnswer}
-use Rattle.route.specs.Route.{routeAnswer}
+use Rattle.frame.specs.Limit.{Answer}
+use Rattle.route.specs.Route.{Finding, routeAnswer, saidRoute}
 use Rattle.route.specs.Demand.{DemandOf}
 use Rattle.route.proofs.RouteAnswer as R
 use Rattle.route.proofs.RouteAnswer.Laws as R′
@@ -161,11 +162,11 @@ module _ {M : Type 1} (𝓤 : URA M) (H : Heap 𝓤) (A : Atoms 𝓤) (W : Given
   L = Lent 𝓤 H A κ₀ κ₁ file map
 
   -- the answer for a list of points
-  abbrev answer : List Point → RouteAnswer
+  abbrev answer : List Point → Answer Finding
   answer ps = routeAnswer (now file) (now map) (numbersOf ps)
 
   abbrev Meant : List Point → RouteAnswer → Type 0
-  Meant ps r = (r ≡ answer ps) × DemandOf (now file) (now map) (numbersOf ps) r
+  Meant ps r = (saidRoute r ≡ answer ps) × DemandOf (now file) (now map) (numbersOf ps) (saidRoute r)
 
   opens : ent 𝓤 (mean 𝓤 H A Entry) (mean 𝓤 H A (Tokens ⊛ L))
   opens = qed W (Tokens ∷ ‵ (owns (ShrSlice (named 0) κ₀ u8 ∷ ShrSlice (named 1) κ₁ u8 ∷ Pts ∷ usize ∷ []) (file, (map, (xs, (n, tt)))) (slice file ∷ [], (slice map ∷ [], (vals xs, (vint w64 n ∷ [], tt))))) ∷ []) ∵

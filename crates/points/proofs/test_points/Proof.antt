@@ -57,9 +57,9 @@ use denote.Exit.{yes}
 use denote.Triple.Clauses.{ensured, lasts}
 use borrow.Author.Tests.{lt-ltb, le-ltb}
 use Rattle.route.specs.declared.RouteAnswer.{RouteAnswer}
-use Rattle.route.specs.Route.{routeAnswer}
-use Rattle.route.specs.Demand.{DemandOf}
-use Rattle.route.proofs.Demand.{demand-3}
+use Rattle.frame.specs.Limit.{Answer}
+use Rattle.route.specs.Route.{Finding, routeAnswer, saidRoute}
+use Rattle.route.proofs.Demand.{demand-of}
 use Rattle.route.proofs.RouteAnswer as R
 use Rattle.route.proofs.RouteAnswer.Laws as R′
 use Rattle.points.specs.declared.Point.{Point}
@@ -208,8 +208,8 @@ module _ {M : Type 1} (𝓤 : URA M) (H : Heap 𝓤) (A : Atoms 𝓤) (W : Given
       qed W (Rest ∷ []) ∵ split ! $ move ! (1 ∷ []) $ split ! $ use1 W (L ⊛ L) (again 𝓤 H A κ₀ κ₁ file map W) $ split ! $
       move ! (3 ∷ 0 ∷ []) $ use2 W (raw (Test 𝓤 H A mem run .pre (to-test xs u k))) (goes-test xs u k a l) $ frame ! $ join ! $ done !
 
-  test-said : (xs : List ℤ) (k : ℕ) (r : RouteAnswer) → ent 𝓤 (ensured 𝓤 H A test.ended (test.clauses 𝓤 H A mem run) (κ₀, (κ₁, tt)) (file, (map, (xs, (k, tt)))) tt r) (fact 𝓤 (r ≡ routeAnswer (now file) (now map) (take (3 * k) xs)))
-  test-said xs k r = exE 𝓤 _ (λ ws. snd∗ 𝓤 (sem 𝓤 H A (lasts test.ended (κ₀, (κ₁, tt)) (file, (map, (xs, (k, tt)))) ws)) (fact 𝓤 (r ≡ routeAnswer (now file) (now map) (take (3 * k) xs))))
+  test-said : (xs : List ℤ) (k : ℕ) (r : RouteAnswer) → ent 𝓤 (ensured 𝓤 H A test.ended (test.clauses 𝓤 H A mem run) (κ₀, (κ₁, tt)) (file, (map, (xs, (k, tt)))) tt r) (fact 𝓤 (saidRoute r ≡ routeAnswer (now file) (now map) (take (3 * k) xs)))
+  test-said xs k r = exE 𝓤 _ (λ ws. snd∗ 𝓤 (sem 𝓤 H A (lasts test.ended (κ₀, (κ₁, tt)) (file, (map, (xs, (k, tt)))) ws)) (fact 𝓤 (saidRoute r ≡ routeAnswer (now file) (now map) (take (3 * k) xs))))
 
   -- the entry, and the exit
   opens : ent 𝓤 (mean 𝓤 H A Entry) (mean 𝓤 H A (‵ (flft κ₂ q₂) ⊛ ‵ Shr ⊛ Rest))
@@ -221,12 +221,12 @@ module _ {M : Type 1} (𝓤 : URA M) (H : Heap 𝓤) (A : Atoms 𝓤) (W : Given
       -- [res; the fractured borrow; the points' fact; true; the map; the file; the tokens]
       move ! (1 ∷ []) $ frame ! $ move ! (5 ∷ []) $ frame ! $ move ! (4 ∷ 3 ∷ []) $ join ! $ frame ! $ keep ! (0 ∷ 1 ∷ []) $ done !
 
-  exits : (r : RouteAnswer) (u : Val) → r ≡ routeAnswer (now file) (now map) (numbersOf ps)
+  exits : (r : RouteAnswer) (u : Val) → saidRoute r ≡ routeAnswer (now file) (now map) (numbersOf ps)
       → ent 𝓤 (⋆ 𝓤 H A (‵ (R.the-row .own r (u ∷ [])) ∷ Tokens₂ ∷ Kept ∷ ‵ (flft κ₂ q₂) ∷ ‵ Shr ∷ [])) (Post u)
   exits r u e =
       qed W (‵ (R.the-row .own r (u ∷ [])) ∷ Tokens₂ ∷ Kept ∷ ‵ (flft κ₂ q₂) ∷ ‵ Shr ∷ []) ∵
       suffices ! _ (ends-at 𝓤 H A self.ended stayed (self.clauses 𝓤 H A mem run) W asked u r (tt, (tt, (tt, tt))) (tt, (tt, (tt, tt)))) $
-      says ! (e, subst (DemandOf (now file) (now map) (numbersOf ps)) (sym e) (demand-3 (now file) (now map) (numbersOf ps))) $
+      says ! (demand-of (now file) (now map) (numbersOf ps) e) $
       move ! (1 ∷ []) $ split ! $ move ! (1 ∷ []) $ split ! $
       -- [token 1; true; token 0; the answer; what is kept; token 2; the fractured borrow]
       move ! (5 ∷ 1 ∷ []) $ join ! $ move ! (1 ∷ 0 ∷ []) $ join ! $ move ! (1 ∷ 0 ∷ []) $ join ! $ frame ! $
@@ -342,7 +342,7 @@ module _ {M : Type 1} (𝓤 : URA M) (H : Heap 𝓤) (A : Atoms 𝓤) (W : Given
         calls-at ! fm (Test 𝓤 H A mem run) (known .1 .1) (to-test xs u k)
         (and-then ! (load ! (from ! (stop !)) (look ! 14 refl)) (and-then ! (load ! (from ! (stop !)) (look ! 13 refl)) (and-then ! (load ! (from ! (stop !)) (look ! 3 refl)) (and-then ! (load ! (from ! (stop !)) (look ! 11 refl)) (no-more !))))) (λ u′.
         use1 W (later (some (λ (r : RouteAnswer). (Tokens₂ ⊛ ‵ (R.the-row .own r (u′ ∷ []))) ⊛ raw (ensured 𝓤 H A test.ended (test.clauses 𝓤 H A mem run) (κ₀, (κ₁, tt)) (file, (map, (xs, (k, tt)))) tt r)))) (id⊢ 𝓤 _) $ await ! tt $ pick ! (λ r.
-        split ! $ move ! (1 ∷ []) $ use1 W (raw (fact 𝓤 (r ≡ routeAnswer (now file) (now map) (take (3 * k) xs)))) (test-said xs k r) $ heard ! (r ≡ routeAnswer (now file) (now map) (take (3 * k) xs)) (λ e. split ! $ move ! (1 ∷ []) $
+        split ! $ move ! (1 ∷ []) $ use1 W (raw (fact 𝓤 (saidRoute r ≡ routeAnswer (now file) (now map) (take (3 * k) xs)))) (test-said xs k r) $ heard ! (saidRoute r ≡ routeAnswer (now file) (now map) (take (3 * k) xs)) (λ e. split ! $ move ! (1 ∷ []) $
         -- [the answer; tokens 0 and 1; what is kept; _6; _5; token 2; the fractured borrow; _11; …; _0; …]
         peeks ! R.the-row (Is R.the-row) (shows 𝓤 H A R.the-row) r (u′ ∷ []) (λ is.
         land ! (from ! (stop !)) (init ! 16 refl (EL.lawful R.the-type R′.the-laws 𝓤 H A W tt .typed r _ is .0)) $
@@ -354,7 +354,7 @@ module _ {M : Type 1} (𝓤 : URA M) (H : Heap 𝓤) (A : Atoms 𝓤) (W : Given
         i-is : i ≡ k
         i-is = omega (arith, f .0)
 
-        answer : List ℤ → RouteAnswer
+        answer : List ℤ → Answer Finding
         answer = routeAnswer (now file) (now map)
 
         copied : take (3 * k) xs ≡ numbersOf (take (min n 65) ps)

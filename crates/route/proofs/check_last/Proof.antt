@@ -5,7 +5,7 @@ use mathlib.Core.Bool.{true}
 use mathlib.Core.Path.{_≡_, sym, ap, _∙_}
 use Prim.Native.Nat.{ℕ}
 use lib.Dec.{leb}
-use Rattle.frame.specs.Questions.{firstBroken, ofEach}
+use Rattle.frame.specs.Questions.{asked, ofEach}
 use Rattle.frame.proofs.Asking.{stopped, through}
 use Rattle.grid.specs.Map.{mapLength}
 use Rattle.fill.specs.Steel.{gridAt, cellCount}
@@ -26,19 +26,19 @@ yes8 : (c : tie.Else1) → let a = start (c .before) .args in leb (mapLength (ce
 yes8 c = le-leb _ _ (rw (long (c .before)) at (c .if1 .left))
 
 returns : tie.Need-returns
-returns c = sym (stopped _ _ (lt-leb _ _ (rw (long (c .before)) at (c .if1 .taken))))
+returns c = sym (stopped _ _ _ (lt-leb _ _ (rw (long (c .before)) at (c .if1 .taken))))
 
 returns-2 : tie.Need-returns-2
-returns-2 c = sym (through _ _ (yes8 (c .before)) ∙ stopped _ _ (rw (lt-leb 2 _ (c .if2 .taken))))
+returns-2 c = sym (through _ _ _ (yes8 (c .before)) ∙ stopped _ _ _ (rw (lt-leb 2 _ (c .if2 .taken))))
 
 returns-3 : tie.Need-returns-3
-returns-3 c = sym (through _ _ (yes8 (c .before .before)) ∙ stopped _ _ (rw (le-leb 2 _ (c .before .if2 .left), lt-leb _ 64 (c .if3 .taken))))
+returns-3 c = sym (through _ _ _ (yes8 (c .before .before)) ∙ stopped _ _ _ (rw (le-leb 2 _ (c .before .if2 .left), lt-leb _ 64 (c .if3 .taken))))
 
 returns-4 : tie.Need-returns-4
 returns-4 c =
     let e3 = c .before in
     let e2 = e3 .before in
-    sym (through _ _ (yes8 (e2 .before)) ∙ stopped _ _ (rw (le-leb 2 _ (e2 .if2 .left), le-leb _ 64 (e3 .if3 .left), ne-eqb _ 0 (c .if4 .taken))))
+    sym (through _ _ _ (yes8 (e2 .before)) ∙ stopped _ _ _ (rw (le-leb 2 _ (e2 .if2 .left), le-leb _ 64 (e3 .if3 .left), ne-eqb _ 0 (c .if4 .taken))))
 
 -- question 9
 yes9 : (c : tie.Else4) → countFits (start (c .before .before .before .before) .args .numbers .now) ≡ true
@@ -53,8 +53,8 @@ returns-5 c =
     let e1 = e4 .before .before .before in
     let a = start (e1 .before) .args in
     c .check-points .ensures
-    ∙ ap (λ (n : ℕ). firstBroken (ofEach (pointQuestion (gridAt (a .header)) (pointsOf (a .numbers .now))) n)) (sym (points-length (a .numbers .now)))
-    ∙ sym (through _ _ (yes8 e1) ∙ through _ _ (yes9 e4))
+    ∙ ap (λ (n : ℕ). asked (ofEach (pointQuestion (gridAt (a .header)) (pointsOf (a .numbers .now))) n)) (sym (points-length (a .numbers .now)))
+    ∙ sym (through _ _ _ (yes8 e1) ∙ through _ _ _ (yes9 e4))
 
 pub check-last-spec : {M : Type 1} → statement M
 check-last-spec =

@@ -4,8 +4,7 @@ use borrow.Author.Tests.{not-true, not-false}
 use mathlib.Core.Path.{_≡_, sym, ap, _∙_}
 use Prim.Native.Nat.{ℕ, _-_, _≤_}
 use native.Mathlib.Omega.{arith}
-use Rattle.frame.specs.declared.Verdict.the-variants.{Passed}
-use Rattle.frame.specs.Questions.{firstBroken, ofEach}
+use Rattle.frame.specs.Questions.{passed, asked, ofEach}
 use Rattle.frame.proofs.Asking.{each-none, each-more, each-no}
 use Rattle.fill.specs.Steel.{gridAt}
 use Rattle.route.specs.Route.{pointsOf, pointAt, inside, pointQuestion}
@@ -13,7 +12,7 @@ use Rattle.route.proofs.check_points.Statement.{statement}
 use Rattle.route.proofs.check_points.Tie as tie
 
 abbrev Inv-loop : tie.InvT-loop
-Inv-loop header numbers count i₀ i = (i ≤ count) × (firstBroken (ofEach (pointQuestion (gridAt header) (pointsOf numbers)) i) ≡ Passed)
+Inv-loop header numbers count i₀ i = (i ≤ count) × (asked (ofEach (pointQuestion (gridAt header) (pointsOf numbers)) i) ≡ passed)
 
 abbrev μ-loop : tie.MeasureT-loop
 μ-loop header numbers count i₀ i = count - i
@@ -45,7 +44,7 @@ returns-2 : tie.Need-returns-2 Inv-loop μ-loop
 returns-2 c =
     let a = c .before .before .args in
     let e : c .before .loop .i ≡ a .count = omega arith in
-    sym (c .before .loop .inv .1) ∙ ap (λ (n : ℕ). firstBroken (ofEach (pointQuestion (gridAt (a .header)) (pointsOf (a .numbers .now))) n)) e
+    sym (c .before .loop .inv .1) ∙ ap (λ (n : ℕ). asked (ofEach (pointQuestion (gridAt (a .header)) (pointsOf (a .numbers .now))) n)) e
 
 pub check-points-spec : {M : Type 1} → statement M
 check-points-spec =

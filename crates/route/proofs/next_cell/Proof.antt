@@ -1,5 +1,4 @@
 -- `route::next_cell` meets its contract: the row's cells follow each other in the map. Assumes nothing.
-use borrow.Author.Needs.{needs}
 use mathlib.Core.Path.{_≡_, ap, _∙_}
 use Prim.Native.Nat.{_+_, _-_}
 use native.Mathlib.Omega.{arith}

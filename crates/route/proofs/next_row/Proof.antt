@@ -1,6 +1,5 @@
 -- `route::next_row` meets its contract: each row before the loop's row is ruled out. With each turn the loop's row grows, or the block of rows halves.
 -- Assumes nothing.
-use borrow.Author.Needs.{needs}
 use mathlib.Core.Bool.{false}
 use mathlib.Core.Path.{_≡_, sym, _∙_}
 use Prim.Native.Nat.{ℕ, _+_, _-_, _*_, _<_, _≤_}

@@ -6,17 +6,17 @@ use native.Mathlib.Omega.{arith}
 use Rattle.overlap.specs.Bounds.{BoundedPoint}
 use Rattle.overlap.specs.Geometry.{Point, leg}
 use Rattle.grid.specs.Map.{isFilled}
+use Rattle.frame.specs.Limit.{gives}
 use Rattle.fill.specs.Steel.{gridAt}
 use Rattle.route.specs.declared.Found.{Found}
-use Rattle.route.specs.declared.RouteAnswer.the-variants.{Free}
-use Rattle.route.specs.Route.{pointCount, pointsOf, pointAt, legCount, firstTouched, onLeg, firstBlocked, tested}
+use Rattle.route.specs.Route.{pointCount, pointsOf, pointAt, legCount, firstTouched, onLeg, firstBlocked, tested, free}
 use Rattle.route.proofs.First.{legs-none, legs-more, legs-blocked}
 use Rattle.route.proofs.Ready.{points-length, point-bounded}
 use Rattle.route.proofs.test_legs.Statement.{statement}
 use Rattle.route.proofs.test_legs.Tie as tie
 
 abbrev Inv-loop : tie.InvT-loop
-Inv-loop header map numbers legs m₀ m = (m ≤ legs) × (firstBlocked (onLeg (isFilled map) (gridAt header) (pointsOf numbers)) m ≡ Free)
+Inv-loop header map numbers legs m₀ m = (m ≤ legs) × (firstBlocked (onLeg (isFilled map) (gridAt header) (pointsOf numbers)) m ≡ free)
 
 abbrev μ-loop : tie.MeasureT-loop
 μ-loop header map numbers legs m₀ m = legs - m
@@ -61,7 +61,7 @@ returns c =
     let l = f .before .before .before .before in
     let s = start l in
     let t = f .before .before .before .loop-test .taken in
-    sym (legs-blocked (find s) (l .loop .m) _ _ (omega (arith, legs s)) (l .loop .inv .1) (sym (found f) ∙ c .before .n .given .1))
+    ap gives (sym (legs-blocked (find s) (l .loop .m) _ _ (omega (arith, legs s)) (l .loop .inv .1) (sym (found f) ∙ c .before .n .given .1)))
 
 loop-again : tie.Need-loop-again Inv-loop μ-loop
 loop-again c =
@@ -75,7 +75,7 @@ returns-2 c =
     let l = c .before in
     let s = start l in
     let all : l .loop .m ≡ legCount (pointsOf (s .args .numbers .now)) = omega (arith, legs s) in
-    sym (l .loop .inv .1) ∙ ap (firstBlocked (find s)) all
+    ap gives (sym (l .loop .inv .1) ∙ ap (firstBlocked (find s)) all)
 
 pub test-legs-spec : {M : Type 1} → statement M
 test-legs-spec =

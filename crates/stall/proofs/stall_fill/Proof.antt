@@ -1,21 +1,30 @@
 -- `stall::stall_fill` meets its contract, case by case of the fill's answer. Assumes nothing.
 use borrow.Author.Needs.{needs}
 use mathlib.Core.Path.{sym, ap, _∙_}
+use Rattle.fill.specs.Steel.{saidFilling}
 use Rattle.stall.specs.Pack.{packedFilling}
+use Rattle.stall.proofs.Answers.{filled}
 use Rattle.stall.proofs.stall_fill.Statement.{statement}
 use Rattle.stall.proofs.stall_fill.Tie as tie
+
+abbrev called : tie.After-slice-known2 → tie.After-fill
+called c = c .before .before
 
 returns : tie.Need-returns
 returns c =
     let arm = c .before .before in
-    let f = arm .before .before .before .before .fill in
-    (c .pack .ensures ∙ ap packedFilling (sym (arm .n .given .1) ∙ f .ensures .0), f .ensures .1)
+    let k = called (arm .before .before) in
+    let a = k .before .before .before .before .args in
+    let e = c .pack .ensures ∙ ap packedFilling (sym (ap saidFilling (arm .n .given .1)) ∙ k .fill .ensures .0) in
+    (e, filled (a .file .now) (a .map .now) e, k .fill .ensures .1)
 
 returns-2 : tie.Need-returns-2
 returns-2 c =
     let arm = c .before .before in
-    let f = arm .before .before .before .before .fill in
-    (c .pack-limit .ensures ∙ ap packedFilling (sym (arm .limit .given .1) ∙ f .ensures .0), f .ensures .1)
+    let k = called (arm .before .before) in
+    let a = k .before .before .before .before .args in
+    let e = c .pack-limit .ensures ∙ ap packedFilling (sym (ap saidFilling (arm .limit .given .1)) ∙ k .fill .ensures .0) in
+    (e, filled (a .file .now) (a .map .now) e, k .fill .ensures .1)
 
 pub stall-fill-spec : {M : Type 1} → statement M
 stall-fill-spec =

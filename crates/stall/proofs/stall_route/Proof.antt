@@ -1,27 +1,26 @@
 -- `stall::stall_route` meets its contract, case by case of the test's answer. Assumes nothing.
 use borrow.Author.Needs.{needs}
-use mathlib.Core.Path.{sym, ap, _∙_}
-use Rattle.stall.specs.Pack.{packedRoute}
+use mathlib.Core.Path.{_≡_, sym, ap, _∙_}
+use Prim.Native.Nat.{ℕ}
+use Rattle.frame.specs.Limit.{Answer}
+use Rattle.route.specs.declared.RouteAnswer.{RouteAnswer}
+use Rattle.route.specs.Route.{Finding, routeAnswer, saidRoute}
+use Rattle.route.specs.Demand.{DemandOf}
+use Rattle.stall.specs.Pack.{packedRoute, unpackedRoute}
+use Rattle.stall.proofs.Answers.{tested}
 use Rattle.stall.proofs.stall_route.Statement.{statement}
 use Rattle.stall.proofs.stall_route.Tie as tie
 
-returns : tie.Need-returns
-returns c =
-    let arm = c .before in
-    let t = arm .before .before .test-route in
-    c .pack .ensures ∙ ap packedRoute (sym (arm .enum-told .given .1) ∙ t .ensures .0)
+-- an arm's answer, packed
+module _ (k : tie.After-test-route) where
+  abbrev said : Answer Finding
+  said = let a = k .before .before .before .args in routeAnswer (a .file .now) (a .map .now) (a .numbers .now)
 
-returns-2 : tie.Need-returns-2
-returns-2 c =
-    let arm = c .before .before in
-    let t = arm .before .before .test-route in
-    c .pack2 .ensures ∙ ap packedRoute (sym (arm .m .given .1) ∙ t .ensures .0)
-
-returns-3 : tie.Need-returns-3
-returns-3 c =
-    let arm = c .before .before in
-    let t = arm .before .before .test-route in
-    c .pack-limit .ensures ∙ ap packedRoute (sym (arm .limit .given .1) ∙ t .ensures .0)
+  packs : {q : RouteAnswer} {r : ℕ} → r ≡ packedRoute (saidRoute q) → k .test-route .result ≡ q → let a = k .before .before .before .args in
+      (r ≡ packedRoute said) × (unpackedRoute r ≡ said) × DemandOf (a .file .now) (a .map .now) (a .numbers .now) (unpackedRoute r)
+  packs p q =
+      let a = k .before .before .before .args in
+      tested (a .file .now) (a .map .now) (a .numbers .now) (p ∙ ap packedRoute (sym (ap saidRoute q) ∙ k .test-route .ensures .0))
 
 pub stall-route-spec : {M : Type 1} → statement M
 stall-route-spec =
@@ -34,6 +33,6 @@ stall-route-spec =
     (λ c κs. search needs)
     (λ c. search needs)
     (λ c κs. search needs)
-    returns
-    returns-2
-    returns-3)
+    (λ c. packs (c .before .before .before) (c .pack .ensures) (c .before .enum-told .given .1))
+    (λ c. packs (c .before .before .before .before) (c .pack2 .ensures) (c .before .before .m .given .1))
+    (λ c. packs (c .before .before .before .before) (c .pack-limit .ensures) (c .before .before .limit .given .1)))

@@ -1,0 +1,31 @@
+-- A packed answer, as the caller unpacks it.
+--     filled, tested, taken     a fill, a route test with what demand 3 says of it, a plain reading
+-- Assumes nothing.
+use mathlib.Core.List.{List}
+use mathlib.Core.Path.{_≡_, ap, ap₂, _∙_}
+use Prim.Native.Nat.{ℕ}
+use lib.IntN.{ℤ}
+use lib.ListN.{length}
+use Rattle.frame.specs.Questions.{reading}
+use Rattle.fill.specs.Steel.{filling}
+use Rattle.route.specs.Route.{routeAnswer}
+use Rattle.route.specs.Demand.{DemandOf}
+use Rattle.route.proofs.Demand.{demand-of}
+use Rattle.stall.specs.Pack.{packedFilling, unpackedFilling, packedRoute, unpackedRoute, roomed, packedReading, unpackedReading}
+use Rattle.stall.specs.Numbers.{readNumbers, written}
+use Rattle.stall.proofs.Unpack.{filling-back, route-back, reading-back}
+use Rattle.stall.proofs.Fitting.{filling-fits, route-fits, reading-fits}
+
+pub filled : (s m : List ℕ) {r : ℕ} → r ≡ packedFilling (filling s m) → unpackedFilling r ≡ filling s m
+filled s m e = ap unpackedFilling e ∙ filling-back (filling s m) (filling-fits s m)
+
+pub tested : (s m : List ℕ) (ns : List ℤ) {r : ℕ} → r ≡ packedRoute (routeAnswer s m ns)
+    → (r ≡ packedRoute (routeAnswer s m ns)) × (unpackedRoute r ≡ routeAnswer s m ns) × DemandOf s m ns (unpackedRoute r)
+tested s m ns e =
+    let (back, demand) = demand-of s m ns (ap unpackedRoute e ∙ route-back (routeAnswer s m ns) (route-fits s m ns)) in
+    (e, back, demand)
+
+pub taken : (s : List ℕ) (i : ℕ) (old : List ℤ) {r : ℕ} {new : List ℤ}
+    → (r ≡ packedReading (roomed (reading s i) (length old))) × (new ≡ written (readNumbers (reading s i)) old)
+    → unpackedReading r new ≡ roomed (reading s i) (length old)
+taken s i old e = ap₂ unpackedReading (e .0) (e .1) ∙ reading-back (reading s i) old (reading-fits s i)

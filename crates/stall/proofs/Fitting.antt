@@ -1,0 +1,125 @@
+-- The numbers of the calls' answers fit the bits that they are packed into.
+--     answered-fits                           by the numbers and places of the questions
+--     filling-fits, route-fits, reading-fits  each call
+-- Assumes nothing.
+use mathlib.Core.Bool.{Bool, true, false, _&&_, and-eq-true-iff}
+use mathlib.Core.List.{List, [], _∷_, _++_}
+use mathlib.Core.Path.{_≡_, refl, sym, subst}
+use Prim.Native.Nat.{ℕ, zero, suc, _*_, _%_, _^_, _<_, _≤_}
+use native.Mathlib.Nat.{mul-le-mul}
+use native.Mathlib.Omega.{arith}
+use borrow.Author.Tests.{leb-true}
+use lib.Dec.{leb, eqb, lit<}
+use lib.IntN.{ℤ}
+use lib.ListN.{length}
+use Rattle.frame.specs.declared.Header.{Header}
+use Rattle.frame.specs.Fields.{headerOf}
+use Rattle.frame.specs.Layout.{version1}
+use Rattle.frame.specs.Limit.{Answer, gives, refused}
+use Rattle.frame.specs.Questions.{Question, Passing, asked, answered, ofEach, fileQuestions, headerQuestions, kindQuestion, reading}
+use Rattle.frame.proofs.Asking.{stopped, through, andThen, first-append}
+use Rattle.frame.proofs.Bounds.{version1-usable, header-bounded}
+use Rattle.overlap.specs.Grid.{Grid}
+use Rattle.overlap.specs.Geometry.{Point}
+use Rattle.grid.specs.Map.{isFilled}
+use Rattle.grid.proofs.Counts.{count-most}
+use Rattle.grid.proofs.Maps.{length-tabulate}
+use Rattle.fill.specs.Steel.{gridAt, cellCount, steel, filledBy, mapQuestion, fillQuestions, filling}
+use Rattle.route.specs.Route.{pointCount, pointFrom, pointsOf, cellsOf, Finding, free, blocked, tested, countFits, pointQuestion, pointQuestions, routeAnswer}
+use Rattle.route.proofs.Demand.{blocked-in}
+use Rattle.stall.proofs.Unpack.{Fits, FitsCount, FitsFinding, FitsAlways}
+
+-- ---- questions
+abbrev FitsQuestion : Question → Type 0
+FitsQuestion q = (q .number < 2 ^ 8) × (q .place < 2 ^ 32)
+
+abbrev FitAll : List Question → Type 0
+FitAll [] = Unit {0}
+FitAll (q ∷ qs) = FitsQuestion q × FitAll qs
+
+fit-append : (a b : List Question) → FitAll a → FitAll b → FitAll (a ++ b)
+fit-append [] b f g = g
+fit-append (q ∷ a) b f g = (f .0, fit-append a b (f .1) g)
+
+fit-each : (q : ℕ → Question) (n : ℕ) → ((i : ℕ) → i < n → FitsQuestion (q i)) → FitAll (ofEach q n)
+unfolding ofEach
+fit-each q zero f = tt
+fit-each q (suc n) f = fit-append (ofEach q n) (q n ∷ []) (fit-each q n (λ i l. f i (omega arith))) (f n (omega arith), tt)
+
+module _ {A : Type 0} (P : A → Type 0) where
+  answered-fits : (x : A) (qs : List Question) → FitAll qs → P x → Fits P (answered qs x)
+  unfolding answered
+  answered-fits x [] f h = h
+  answered-fits x (q ∷ qs) f h = go (q .holds) refl (answered-fits x qs (f .1) h)
+    where
+      go : (b : Bool) → q .holds ≡ b → Fits P (answered qs x) → Fits P (answered (q ∷ qs) x)
+      go true e r = subst (Fits P) (sym (through x q qs e)) r
+      go false e r = subst (Fits P) (sym (stopped x q qs e)) (f .0)
+
+  then-fits : (v : Passing) (w : Answer A) → Fits FitsAlways v → Fits P w → Fits P (andThen v w)
+  then-fits (gives u) w f g = g
+  then-fits (refused n p) w f g = f
+
+-- ---- questions 1 to 8
+module _ (s : List ℕ) where
+  abbrev h : Header
+  h = headerOf version1 s
+
+  -- a question with a number up to 10 and the place 0
+  few : {n : ℕ} → n ≤ 10 → (n < 2 ^ 8) × (0 < 2 ^ 32)
+  few l = (omega arith, lit< tt)
+
+  file-fits : FitAll (fileQuestions version1 h s)
+  file-fits =
+      fit-append (headerQuestions version1 h s) (ofEach (kindQuestion version1 s) (h .count))
+      (few (omega arith), (few (omega arith), (few (omega arith), (few (omega arith), (few (omega arith), (few (omega arith), tt))))))
+      (fit-each (kindQuestion version1 s) (h .count) (λ i l. (lit< tt, omega (arith, header-bounded version1 version1-usable s .count))))
+
+  fill-fits : (len : ℕ) → FitAll (fillQuestions s h len)
+  fill-fits len = fit-append (fileQuestions version1 h s) (mapQuestion h len ∷ []) file-fits (few (omega arith), tt)
+
+  cells-most : cellCount h ≤ 64 * 64 * 64
+  cells-most = let b = header-bounded version1 version1-usable s in mul-le-mul (mul-le-mul (b .x .cells) (b .y .cells)) (b .z .cells)
+
+  -- ---- the calls
+  pub reading-fits : (i : ℕ) → Fits FitsAlways (reading s i)
+  unfolding reading
+  reading-fits i = answered-fits FitsAlways _ (fileQuestions version1 h s) file-fits tt
+
+  pub filling-fits : (m : List ℕ) → Fits FitsCount (filling s m)
+  unfolding filling
+  filling-fits m = answered-fits FitsCount _ (fillQuestions s h (length m)) (fill-fits (length m)) (omega (arith, cells-most, count-most (filledBy (gridAt h) (steel s h)) (cellCount h)))
+
+finding-fits : (filled : ℕ → Bool) (g : Grid) (ps : List Point) → length ps ≤ 64 → cellsOf g ≤ 64 * 64 * 64 → FitsFinding (tested filled g ps)
+finding-fits filled g ps few-points few-cells = go (tested filled g ps) refl
+  where
+    go : (f : Finding) → tested filled g ps ≡ f → FitsFinding f
+    go free e = tt
+    go (blocked m n) e = let (lm, ln, hit) = blocked-in filled g ps m n e in (omega (arith, lm), omega (arith, ln))
+
+module _ (s m : List ℕ) (ns : List ℤ) where
+  finding : Finding
+  finding = tested (isFilled m) (gridAt (headerOf version1 s)) (pointsOf ns)
+
+  points-length : length (pointsOf ns) ≡ pointCount ns
+  unfolding pointsOf
+  points-length = length-tabulate (pointFrom ns) (pointCount ns)
+
+  points-fit : (b : Bool) → countFits ns ≡ b → Fits FitsFinding (answered (pointQuestions (gridAt (headerOf version1 s)) ns) finding)
+  unfolding finding
+  points-fit false e = subst (Fits FitsFinding) (sym (stopped _ _ _ e)) (lit< tt, lit< tt)
+  points-fit true e =
+      let count = and-eq-true-iff (leb 2 (pointCount ns)) (leb (pointCount ns) 64 && eqb (length ns % 3) 0) .0 e in
+      let most = leb-true (pointCount ns) 64 (and-eq-true-iff (leb (pointCount ns) 64) (eqb (length ns % 3) 0) .0 (count .1) .0) in
+      let points : length (pointsOf ns) ≤ 64 = omega (arith, most, points-length) in
+      subst (Fits FitsFinding) (sym (through _ _ _ e))
+      (answered-fits FitsFinding _ (ofEach (pointQuestion (gridAt (headerOf version1 s)) (pointsOf ns)) (length (pointsOf ns)))
+      (fit-each _ _ (λ i l. (lit< tt, omega (arith, l, points))))
+      (finding-fits (isFilled m) (gridAt (headerOf version1 s)) (pointsOf ns) points (cells-most s)))
+
+  pub route-fits : Fits FitsFinding (routeAnswer s m ns)
+  unfolding routeAnswer finding
+  route-fits =
+      let q = fillQuestions s (headerOf version1 s) (length m) in
+      subst (Fits FitsFinding) (sym (first-append finding q (pointQuestions (gridAt (headerOf version1 s)) ns)))
+      (then-fits FitsFinding (asked q) _ (answered-fits FitsAlways tt q (fill-fits s (length m)) tt) (points-fit (countFits ns) refl))
