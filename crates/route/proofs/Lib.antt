@@ -8,5 +8,6 @@ mod Ready
 mod Answers
 -- Demand 3, whole.
 pub mod Demand
+pub mod Words
 -- The worked examples.
 pub mod Worked
