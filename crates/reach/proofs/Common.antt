@@ -2,9 +2,9 @@
 --     common-at       weights of the leg and of the triangle that give one and the same point
 --     corner-common   an end that is a corner
 -- Assumes nothing.
-use mathlib.Core.List.{[], _∷_}
+use mathlib.Core.List.{List, [], _∷_}
 use mathlib.Core.Logic.{_⊎_, inl, inr}
-use mathlib.Core.Path.{_≡_, ap, sym, _∙_}
+use mathlib.Core.Path.{_≡_, refl, ap, sym, _∙_}
 use Prim.Native.Nat.{ℕ, _+_, _<_}
 use native.Mathlib.Omega.{arith}
 use lib.IntN.{ℤ, pos, _*ℤ_}
@@ -53,42 +53,32 @@ common-at {a} {b} {p} {t} u w = record {
         record { same = ap (_*ℤ_ V₀) (u .sum c) ∙ exchange V₀ (c p) L ∙ ap (_*ℤ_ L) (sym (w .sum c)) }
 
 -- ---- ends and corners: all weight on one of them
+one : {x y : ℤ} {n : ℕ} → n ≡ 1 → x ≡ y → x ≡ y *ℤ pos n
+one {x} {y} h e = rw h (e ∙ ring (y ∷ []) (var 0) (var 0 ⊗ num 1) tt)
+
 leg-end : (a b p : Point) → (p ≡ a) ⊎ (p ≡ b) → LegAt a b p
-leg-end a b p (inl e) = record {
-  l0 = 1;
-  l1 = 0;
-  some = omega arith;
-  sum = λ c. rw e (ring (c a ∷ c b ∷ []) (num 1 ⊗ var 0 ⊕ num 0 ⊗ var 1) (var 0 ⊗ num 1) tt);
-}
-leg-end a b p (inr e) = record {
-  l0 = 0;
-  l1 = 1;
-  some = omega arith;
-  sum = λ c. rw e (ring (c a ∷ c b ∷ []) (num 0 ⊗ var 0 ⊕ num 1 ⊗ var 1) (var 1 ⊗ num 1) tt);
-}
+leg-end a b p = go
+  where
+    on : (u v : ℕ) → u + v ≡ 1 → ((c : Axis) → weightedSumLeg a b u v c ≡ c p) → LegAt a b p
+    on u v h sum = record { l0 = u; l1 = v; some = omega arith; sum = λ c. one h (sum c) }
+
+    go : (p ≡ a) ⊎ (p ≡ b) → LegAt a b p
+    go (inl e) = on 1 0 refl (λ c. rw e (ring (c a ∷ c b ∷ []) (num 1 ⊗ var 0 ⊕ num 0 ⊗ var 1) (var 0) tt))
+    go (inr e) = on 0 1 refl (λ c. rw e (ring (c a ∷ c b ∷ []) (num 0 ⊗ var 0 ⊕ num 1 ⊗ var 1) (var 1) tt))
 
 triangle-corner : (t : Triangle) (p : Point) → (p ≡ t .v0) ⊎ ((p ≡ t .v1) ⊎ (p ≡ t .v2)) → TriangleAt t p
-triangle-corner t p (inl e) = record {
-  w0 = 1;
-  w1 = 0;
-  w2 = 0;
-  some = omega arith;
-  sum = λ c. rw e (ring (c (t .v0) ∷ c (t .v1) ∷ c (t .v2) ∷ []) (num 1 ⊗ var 0 ⊕ num 0 ⊗ var 1 ⊕ num 0 ⊗ var 2) (var 0 ⊗ num 1) tt);
-}
-triangle-corner t p (inr (inl e)) = record {
-  w0 = 0;
-  w1 = 1;
-  w2 = 0;
-  some = omega arith;
-  sum = λ c. rw e (ring (c (t .v0) ∷ c (t .v1) ∷ c (t .v2) ∷ []) (num 0 ⊗ var 0 ⊕ num 1 ⊗ var 1 ⊕ num 0 ⊗ var 2) (var 1 ⊗ num 1) tt);
-}
-triangle-corner t p (inr (inr e)) = record {
-  w0 = 0;
-  w1 = 0;
-  w2 = 1;
-  some = omega arith;
-  sum = λ c. rw e (ring (c (t .v0) ∷ c (t .v1) ∷ c (t .v2) ∷ []) (num 0 ⊗ var 0 ⊕ num 0 ⊗ var 1 ⊕ num 1 ⊗ var 2) (var 2 ⊗ num 1) tt);
-}
+triangle-corner t p = go
+  where
+    on : (u v w : ℕ) → u + v + w ≡ 1 → ((c : Axis) → weightedSum t u v w c ≡ c p) → TriangleAt t p
+    on u v w h sum = record { w0 = u; w1 = v; w2 = w; some = omega arith; sum = λ c. one h (sum c) }
+
+    corners : Axis → List ℤ
+    corners c = c (t .v0) ∷ c (t .v1) ∷ c (t .v2) ∷ []
+
+    go : (p ≡ t .v0) ⊎ ((p ≡ t .v1) ⊎ (p ≡ t .v2)) → TriangleAt t p
+    go (inl e) = on 1 0 0 refl (λ c. rw e (ring (corners c) (num 1 ⊗ var 0 ⊕ num 0 ⊗ var 1 ⊕ num 0 ⊗ var 2) (var 0) tt))
+    go (inr (inl e)) = on 0 1 0 refl (λ c. rw e (ring (corners c) (num 0 ⊗ var 0 ⊕ num 1 ⊗ var 1 ⊕ num 0 ⊗ var 2) (var 1) tt))
+    go (inr (inr e)) = on 0 0 1 refl (λ c. rw e (ring (corners c) (num 0 ⊗ var 0 ⊕ num 0 ⊗ var 1 ⊕ num 1 ⊗ var 2) (var 2) tt))
 
 pub corner-common : (a b p : Point) (t : Triangle) → (p ≡ a) ⊎ (p ≡ b) → (p ≡ t .v0) ⊎ ((p ≡ t .v1) ⊎ (p ≡ t .v2)) → CommonPoint a b t
 corner-common a b p t end corner = common-at (leg-end a b p end) (triangle-corner t p corner)
