@@ -1,5 +1,10 @@
+-- Blocks of cells, and the halves of one.
 pub mod Blocks
 pub mod Ways
+-- The cells of a triangle, and files within the overlap test's bounds.
 mod Triangles
 mod Ready
+-- What the fill says and leaves.
 pub mod Answers
+-- What its words hold of.
+pub mod Words

@@ -1,16 +1,17 @@
--- The worked listing of frame g, and the refusal of its first 27 bytes, by computation on the definitions themselves.
+-- The worked listing of frame g, the refusal of its first 27 bytes, and the printed line of a refusal with a place, by computation on the definitions themselves.
 use mathlib.Core.List.{List, [], _∷_}
 use mathlib.Core.Path.{_≡_, refl}
 use Prim.Native.Nat.{ℕ}
 use lib.ListN.{take}
 use Rattle.bits.specs.Field.{bitAt, fieldAt, signedAt}
 use Rattle.frame.specs.Fields.{headerOf, reservedOf, kindOf, triangleOf}
+use Rattle.frame.specs.Limit.{numbered}
 use Rattle.frame.specs.Questions.{answered, ofEach, checked}
 use Rattle.overlap.specs.Rule.{overlapsBox, overlaps}
 use Rattle.grid.specs.Map.{tabulate, countBelow}
 use Rattle.fill.specs.Steel.{steel, anyOf}
 use Rattle.listing.specs.Text.{digits, decimal}
-use Rattle.listing.specs.Listing.{cellLine, linesFrom, firstLine, listing}
+use Rattle.listing.specs.Listing.{refusedLine, cellLine, linesFrom, firstLine, listing}
 
 abbrev g : List ℕ
 g =
@@ -30,3 +31,8 @@ worked = refl
 pub refused : listing (take 27 g) ≡ (82 ∷ 69 ∷ 70 ∷ 85 ∷ 83 ∷ 69 ∷ 68 ∷ 32 ∷ 54 ∷ 32 ∷ 48 ∷ 10 ∷ [])
 unfolding bitAt fieldAt signedAt headerOf reservedOf kindOf triangleOf answered ofEach checked digits decimal listing
 refused = refl
+
+-- "REFUSED 7 2"
+pub printed : refusedLine (numbered 7 2) ≡ (82 ∷ 69 ∷ 70 ∷ 85 ∷ 83 ∷ 69 ∷ 68 ∷ 32 ∷ 55 ∷ 32 ∷ 50 ∷ 10 ∷ [])
+unfolding digits decimal
+printed = refl

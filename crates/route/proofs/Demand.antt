@@ -10,10 +10,9 @@ use mathlib.Core.Logic.{_⊎_, inl, inr}
 use mathlib.Core.Path.{_≡_, refl, sym, ap, _∙_, subst}
 use Prim.Native.Nat.{ℕ, _+_, _<_}
 use native.Mathlib.Omega.{arith}
-use borrow.Author.Tests.{lt-ltb}
 use lib.Dec.{T}
 use lib.IntN.{ℤ, pos}
-use lib.ListN.{length, drop}
+use lib.ListN.{length}
 use lib.Signed.{_≤ℤ_}
 use Rattle.integers.proofs.Laws.{<→≤}
 use Rattle.frame.specs.Fields.{headerOf}
@@ -28,11 +27,10 @@ use Rattle.reach.proofs.Theorem.{cell-rule}
 use Rattle.reach.proofs.Legs.{leg-rule}
 use Rattle.reach.proofs.Grid.{Proper, common-cell}
 use Rattle.grid.specs.Cells.{cellNumber}
-use Rattle.grid.specs.Map.{mapLength, isFilled}
-use Rattle.grid.proofs.Maps.{filled-map}
+use Rattle.grid.specs.Map.{isFilled}
 use Rattle.grid.proofs.Numbers.{number-lt, x-of, y-of, z-of}
 use Rattle.fill.specs.Steel.{gridAt, cellCount, steel, anyOf, fillsCell, filledBy}
-use Rattle.fill.proofs.Answers.{left-given}
+use Rattle.fill.proofs.Words.{rule-filled}
 use Rattle.route.specs.Route.{Finding, free, blocked, pointsOf, pointAt, legAt, legCount, cellsOf, filledAndTouched, firstTouched, onLeg, tested, routeAnswer}
 use Rattle.route.specs.Demand.{SomeOf, cornerOf, IsBlocked, BothReach, Demand3, LeftByFill, DemandOf}
 use Rattle.route.proofs.Answers.{last-passed, answer-given}
@@ -171,10 +169,7 @@ module _ (s m : List ℕ) where
 
   -- the map holds the rule's cells
   filled-rule : LeftByFill s m → (n : ℕ) → n < cells → isFilled m n ≡ rule n
-  filled-rule left n l =
-      ap (λ (x : List ℕ). isFilled x n) (left .bytes ∙ left-given s (left .old) (left .accepted))
-      ∙ filled-map rule cells (drop (mapLength cells) (left .old)) n (omega arith)
-      ∙ rw (lt-ltb n cells l)
+  filled-rule left n l = ap (λ (x : List ℕ). isFilled x n) (left .bytes) ∙ rule-filled s (left .old) (left .count) (left .accepted) n l
 
   module _ (ns : List ℤ) where
     pub demand-3 : DemandOf s m ns (routeAnswer s m ns)
