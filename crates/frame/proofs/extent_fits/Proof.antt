@@ -1,14 +1,14 @@
 -- `frame::extent_fits` meets its contract: the three axes in turn, up to the first that does not fit. Assumes nothing.
-use borrow.Author.Needs.{needs}
 use borrow.Author.Tests.{not-true, not-false}
 use mathlib.Core.Bool.{Bool}
 use mathlib.Core.Path.{_≡_, sym, _∙_}
-use Prim.Native.Nat.{ℕ}
+use Prim.Native.Nat.{ℕ, _^_}
 use lib.Dec.{lit<}
 use lib.IntN.{ℤ}
 use mir.Syntax.{w64}
 use mir.Val.{toZ, ofZ}
 use mir.Facts.{toZ-ofZ}
+use Rattle.integers.specs.Within.{Within}
 use Rattle.integers.proofs.Bounds.{within-fits}
 use Rattle.frame.specs.Questions.{BoundedAxis, axisFits}
 use Rattle.frame.proofs.extent_fits.Statement.{statement}
@@ -23,6 +23,9 @@ module _ (s : tie.Start) where
       → r ≡ axisFits (toZ w64 (ofZ w64 (s .args .farthest))) (toZ w64 (ofZ w64 o)) n (toZ w64 (ofZ w64 (s .args .header .edge))) → r ≡ fits o n
   axis {o} b e =
       e ∙ rw (toZ-ofZ (s .fits .farthest), toZ-ofZ {w = w64} {z = o} (within-fits (lit< tt) (b .origin)), toZ-ofZ {w = w64} (within-fits (lit< tt) (s .pre .edge)))
+
+  asked : {o : ℤ} {n : ℕ} → BoundedAxis o n → BoundedAxis (toZ w64 (ofZ w64 o)) n × Within (2 ^ 25) (toZ w64 (ofZ w64 (s .args .header .edge)))
+  asked {o} b = rw (toZ-ofZ {w = w64} {z = o} (within-fits (lit< tt) (b .origin)), toZ-ofZ {w = w64} (within-fits (lit< tt) (s .pre .edge))) (b, s .pre .edge)
 
 -- what the first two tests say, where they fail and where they pass
 abbrev start1 : tie.After-axis-fits → tie.Start
@@ -58,9 +61,9 @@ pub extent-fits-spec : {M : Type 1} → statement M
 extent-fits-spec =
     tie.close
     (tie.spec
-    (λ c κs. search needs)
+    (λ c κs. let s = c .before .before .before .before in asked s (s .pre .x))
     returns
-    (λ c κs. search needs)
+    (λ c κs. let s = start1 (c .before .before .before) in asked s (s .pre .y))
     returns-2
-    (λ c κs. search needs)
+    (λ c κs. let s = start2 (c .before .before .before) in asked s (s .pre .z))
     returns-3)

@@ -1,5 +1,4 @@
 -- `overlap::edges_half` meets its contract: the edges in turn, up to the first test that fails.
-use borrow.Author.Needs.{needs}
 use borrow.Author.Tests.{not-true, not-false}
 use mathlib.Core.List.{List, [], _∷_}
 use mathlib.Core.Path.{_≡_, sym, _∙_}
@@ -77,15 +76,15 @@ pub edges-half-spec : {M : Type 1} → statement M
 edges-half-spec =
     tie.close
     (tie.spec
-    (λ c κs. search needs)
+    (λ c κs. let s = c in let p = s .pre in (omega (arith, p .0), omega (arith, p .1), omega (arith, p .2), p .3 .e0, required s))
     returns
-    (λ c. search needs)
-    (λ c. search needs)
-    (λ c. search needs)
-    (λ c κs. search needs)
+    (λ c. omega arith)
+    (λ c. omega arith)
+    (λ c. omega arith)
+    (λ c κs. let s = at0 (c .before) in let p = s .pre in (omega (arith, p .0), omega (arith, p .1), omega (arith, p .2), p .3 .e1, required s))
     returns-2
-    (λ c. search needs)
-    (λ c. search needs)
-    (λ c. search needs)
+    (λ c. omega arith)
+    (λ c. omega arith)
+    (λ c. omega arith)
     (λ c κs. let s = at0 (at1 (c .before)) in let p = s .pre in (omega (arith, p .0), omega (arith, p .1), omega (arith, p .2), p .3 .e2, required s))
     returns-3)

@@ -77,12 +77,12 @@ pub edges-test-spec : {M : Type 1} → statement M
 edges-test-spec =
     tie.close
     (tie.spec
-    (λ c κs. search needs)
+    (λ c κs. let p = c .pre in (omega (arith, p .0), omega (arith, p .1), omega (arith, p .2), p .3 .e0, required c))
     returns
     (λ c. search needs)
     (λ c. search needs)
     (λ c. search needs)
-    (λ c κs. search needs)
+    (λ c κs. let s = at0 (c .before) in let p = s .pre in (omega (arith, p .0), omega (arith, p .1), omega (arith, p .2), p .3 .e1, required s))
     returns-2
     (λ c. search needs)
     (λ c. search needs)

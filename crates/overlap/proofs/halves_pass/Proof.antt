@@ -1,5 +1,4 @@
 -- `overlap::halves_pass` meets its contract, by the half that is ruled out. Assumes nothing.
-use borrow.Author.Needs.{needs}
 use borrow.Author.Tests.{eq-eqb, ne-eqb}
 use mathlib.Core.Bool.{Bool, true, false, _&&_}
 use mathlib.Core.List.{List, [], _∷_}
@@ -11,7 +10,7 @@ use native.Mathlib.Omega.{arith}
 use lib.Dec.{eqb}
 use lib.IntN.{ℤ}
 use Rattle.integers.proofs.Expr.{Expr, var, nth}
-use Rattle.integers.proofs.Machine.{learnt, cases}
+use Rattle.integers.proofs.Machine.{bounded, learnt, cases}
 use Rattle.overlap.specs.Bounds.{cutBounds}
 use Rattle.overlap.specs.Cut.{cutEdges, lowerPasses, upperPasses, RuledOut, EdgesPass}
 use Rattle.overlap.proofs.halves_pass.Statement.{statement}
@@ -96,10 +95,10 @@ pub halves-pass-spec : {M : Type 1} → statement M
 halves-pass-spec =
     tie.close
     (tie.spec
-    (λ c κs. search needs)
+    (λ c κs. (c .pre .0, bounded (ρ c) all (cutBounds 4) (cutBounds 4) tt (c .pre .1)))
     returns
     returns-2
-    (λ c κs. search needs)
+    (λ c κs. let s = c .before .before .before in (s .pre .0, bounded (ρ s) all (cutBounds 4) (cutBounds 4) tt (s .pre .1)))
     (λ c. omega (arith, ruled (asked (c .before)) .known))
     returns-3
     returns-4)

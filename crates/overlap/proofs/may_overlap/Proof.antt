@@ -1,10 +1,10 @@
 -- `overlap::may_overlap` meets its contract: the plane, then the edges in each plane of two axes, up to the first test that fails.
-use borrow.Author.Needs.{needs}
 use borrow.Author.Tests.{not-true, not-false}
 use mathlib.Core.Bool.{Bool, true}
 use mathlib.Core.List.{List, [], _∷_}
 use mathlib.Core.Path.{_≡_, sym, _∙_, subst}
 use Prim.Native.Nat.{ℕ}
+use native.Mathlib.Omega.{arith}
 use lib.Dec.{T, lit<}
 use lib.IntN.{ℤ, pos}
 use Rattle.integers.specs.Within.{Withins}
@@ -162,12 +162,12 @@ pub may-overlap-spec : {M : Type 1} → statement M
 may-overlap-spec =
     tie.close
     (tie.spec
-    (λ c κs. search needs)
-    (λ c κs. search needs)
-    (λ c κs. search needs)
-    (λ c κs. search needs)
-    (λ c κs. search needs)
-    (λ c κs. search needs)
+    (λ c κs. omega (arith, c .pre .1 .0))
+    (λ c κs. omega (arith, c .before .pre .1 .1 .0))
+    (λ c κs. omega (arith, c .before .before .pre .1 .1 .1 .0))
+    (λ c κs. omega (arith, c .before .before .before .pre .1 .1 .1 .1 .0))
+    (λ c κs. omega (arith, c .before .before .before .before .pre .1 .1 .1 .1 .1 .0))
+    (λ c κs. omega (arith, c .before .before .before .before .before .pre .1 .1 .1 .1 .1 .1 .0))
     (λ c κs. (start c .pre .0 .plane, bounded (ρ c) all bs bs tt (ins c)))
     returns
     (λ c κs. let m = c .before .before in (lit< tt, lit< tt, lit< tt, start m .pre .0 .xy, edges-required m xy tt))

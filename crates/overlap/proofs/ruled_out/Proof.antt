@@ -1,5 +1,4 @@
 -- `overlap::ruled_out` meets its contract, case by case of the plane's answers. Assumes nothing.
-use borrow.Author.Needs.{needs}
 use mathlib.Core.Bool.{Bool, true, false, _&&_}
 use mathlib.Core.List.{List, [], _∷_}
 use mathlib.Core.Path.{_≡_, ap, ap₂, _∙_}
@@ -8,7 +7,7 @@ use native.Mathlib.Omega.{arith}
 use lib.Dec.{lit<}
 use lib.IntN.{ℤ}
 use Rattle.integers.proofs.Expr.{Expr, var, nth}
-use Rattle.integers.proofs.Machine.{learnt}
+use Rattle.integers.proofs.Machine.{bounded, learnt}
 use Rattle.overlap.specs.Bounds.{cutBounds}
 use Rattle.overlap.specs.Cut.{cutEdges, Rules}
 use Rattle.overlap.proofs.ruled_out.Statement.{statement}
@@ -72,4 +71,4 @@ returns-4 c = record {
 }
 
 pub ruled-out-spec : {M : Type 1} → statement M
-ruled-out-spec = tie.close (tie.spec (λ c κs. search needs) returns returns-2 returns-3 returns-4)
+ruled-out-spec = tie.close (tie.spec (λ c κs. let s = c .before .before in (s .pre .0, bounded (ρ s) all (cutBounds 4) (cutBounds 4) tt (s .pre .1))) returns returns-2 returns-3 returns-4)
