@@ -5,7 +5,7 @@
 -- Assumes nothing.
 use mathlib.Core.Bool.{Bool, true, false, cond}
 use mathlib.Core.List.{List, List·Memᴰ, List·Memᴰ·head, Memᴰ·append-left, Memᴰ·append-right}
-use mathlib.Core.Path.{_≡_, refl, ap, sym, _∙_, subst}
+use mathlib.Core.Path.{_≡_, refl, ap, sym, _∙_}
 use Prim.Native.Nat.{ℕ, zero, suc, _<_}
 use native.Mathlib.Decide.{ℕ-discrete}
 use native.Mathlib.Nat.{not-suc-le-zero}
@@ -18,7 +18,7 @@ use Rattle.frame.specs.declared.Triangle.{Triangle}
 use Rattle.frame.specs.Fields.{headerOf, triangleOf, fromRecord}
 use Rattle.frame.specs.Layout.{version1}
 use Rattle.frame.specs.Limit.{gives}
-use Rattle.frame.specs.Questions.{Contents, withRecord, noRecord, contents, fileQuestions, reading}
+use Rattle.frame.specs.Questions.{withRecord, noRecord, contents, fileQuestions, reading}
 use Rattle.frame.proofs.Asking.{asked-given}
 use Rattle.grid.specs.Map.{mapLength, isFilled, countBelow, tabulate}
 use Rattle.grid.proofs.Counts.{count-same}

@@ -9,7 +9,7 @@
 --     each-passed         all items pass, so each does
 -- Assumes nothing.
 use mathlib.Core.Bool.{Bool, true, false}
-use mathlib.Core.List.{List, [], _∷_, _++_}
+use mathlib.Core.List.{List, [], _∷_, _++_, append-nil}
 use mathlib.Core.Path.{_≡_, refl, sym, ap, _∙_}
 use Prim.Native.Nat.{ℕ, zero, suc, _+_, _<_}
 use native.Mathlib.Nat.{not-suc-le-zero}
@@ -57,13 +57,7 @@ module _ {A : Type 0} (x : A) where
 
   pub asked-first : (qs : List Question) → answered qs x ≡ andThen (asked qs) (gives x)
   unfolding answered
-  asked-first [] = refl
-  asked-first (q ∷ qs) = go (q .holds) refl (asked-first qs)
-    where
-      go : (t : Bool) → q .holds ≡ t → answered qs x ≡ andThen (asked qs) (gives x)
-          → answered (q ∷ qs) x ≡ andThen (asked (q ∷ qs)) (gives x)
-      go true e ih = rw (through x q qs e, through (tt {0}) q qs e) ih
-      go false e ih = rw (stopped x q qs e, stopped (tt {0}) q qs e)
+  asked-first qs = ap (λ (l : List Question). answered l x) (sym (append-nil qs)) ∙ first-append qs []
 
   pub refuses : {n p : ℕ} (qs : List Question) → asked qs ≡ refused n p → answered qs x ≡ refused n p
   refuses qs e = asked-first qs ∙ rw e

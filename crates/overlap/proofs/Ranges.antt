@@ -11,7 +11,7 @@ use native.Mathlib.Omega.{arith}
 use borrow.Author.Tests.{ltb-true, leb-true, lt-ltb, le-leb}
 use lib.Dec.{leb, ltb}
 use lib.IntN.{ℤ, pos, negℤ, _+ℤ_, _-ℤ_, _*ℤ_}
-use lib.Signed.{_≤ℤ_, _<ℤ_, leZ}
+use lib.Signed.{_≤ℤ_, _<ℤ_}
 use Rattle.integers.specs.Order.{minℤ, maxℤ, Floor}
 use Rattle.integers.proofs.Omega.{zarith, +!, neg!, le-true, true-le}
 use Rattle.integers.proofs.Expr.{Expr, var, neg, _⊕_, _⊖_, _⊗_}
@@ -100,29 +100,28 @@ module _ (least greatest o e : ℤ) (positive : pos 0 <ℤ e) where
     }
 
 -- ---- one range
+not-less : {a b : ℕ} → (a < b → ⊥) → b ≤ a
+not-less {a} {b} h = go (decLt a b)
+  where
+    go : Dec (a < b) → b ≤ a
+    go (yes l) = absurd (h l)
+    go (no l) = omega arith
+
 module _ {n : ℕ} {P Q : ℕ → Bool} where
   end-le : {r s : CellRange} → Picks n P Q r → Picks n P Q s → s .end ≤ r .end
-  end-le {r} {s} p q = go (decLt (r .end) (s .end))
-    where
-      go : Dec (r .end < s .end) → s .end ≤ r .end
-      go (yes l) =
-          let i = r .end in
-          let h : i < n = omega (arith, q .within) in
-          absurd (omega (arith, ltb-true i i (p .upto i h ∙ sym (q .upto i h) ∙ lt-ltb i (s .end) l)))
-      go (no l) = omega arith
+  end-le {r} {s} p q = not-less (λ l.
+      let i = r .end in
+      let h : i < n = omega (arith, q .within) in
+      omega (arith, ltb-true i i (p .upto i h ∙ sym (q .upto i h) ∙ lt-ltb i (s .end) l)))
 
   first-le : {r s : CellRange} → Picks n P Q r → Picks n P Q s → s .first ≤ r .first
-  first-le {r} {s} p q = go (decLt (r .first) (s .first))
-    where
-      go : Dec (r .first < s .first) → s .first ≤ r .first
-      go (yes l) =
-          let i = r .first in
-          let e : i < r .end = omega (arith, q .ordered, end-le p q) in
-          let h : i < n = omega (arith, p .within) in
-          let here = and-eq-true-iff (leb i i) (ltb i (r .end)) .1 (le-leb i i (omega arith), lt-ltb i (r .end) e) in
-          let (t, _) = and-eq-true-iff (leb (s .first) i) (ltb i (s .end)) .0 (q .exact i h ∙ sym (p .exact i h) ∙ here) in
-          absurd (omega (arith, leb-true (s .first) i t))
-      go (no l) = omega arith
+  first-le {r} {s} p q = not-less (λ l.
+      let i = r .first in
+      let e : i < r .end = omega (arith, q .ordered, end-le p q) in
+      let h : i < n = omega (arith, p .within) in
+      let here = and-eq-true-iff (leb i i) (ltb i (r .end)) .1 (le-leb i i (omega arith), lt-ltb i (r .end) e) in
+      let (t, _) = and-eq-true-iff (leb (s .first) i) (ltb i (s .end)) .0 (q .exact i h ∙ sym (p .exact i h) ∙ here) in
+      omega (arith, leb-true (s .first) i t))
 
   -- `Picks` fixes the range, an empty one too.
   pub picks-one : {r s : CellRange} → Picks n P Q r → Picks n P Q s → r ≡ s

@@ -12,7 +12,7 @@ use lib.IntN.{ℤ}
 use Rattle.integers.proofs.Expr.{Expr, var, nth}
 use Rattle.integers.proofs.Machine.{bounded, learnt, cases}
 use Rattle.overlap.specs.Bounds.{cutBounds}
-use Rattle.overlap.specs.Cut.{cutEdges, lowerPasses, upperPasses, RuledOut, EdgesPass}
+use Rattle.overlap.specs.Cut.{cutEdges, lowerPasses, upperPasses, RuledOut}
 use Rattle.overlap.proofs.halves_pass.Statement.{statement}
 use Rattle.overlap.proofs.halves_pass.Tie as tie
 

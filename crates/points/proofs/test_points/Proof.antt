@@ -6,7 +6,7 @@
 --     At i u      the context at the head of a turn, where i points are copied, and the array's machine value is u.        Inv t     the same, where t points are left
 --     more, ends  a turn that copies one point, and the turn that leaves the loop, with the rest of the body
 -- All that the proof knows of the callees is that each meets its contract. Assumes nothing.
-use mathlib.Core.Path.{_≡_, refl, sym, ap, _∙_, subst}
+use mathlib.Core.Path.{_≡_, refl, sym, ap, _∙_}
 use Prim.Native.Nat.{ℕ, zero, suc, _+_, _*_, _<_, _≤_, _^_, min}
 use native.Mathlib.Nat.{lt-suc-self}
 use native.Mathlib.Omega.{arith}
