@@ -1,24 +1,32 @@
 -- Laws of blocks of cells.
---     range-cut            a range cut in two
+--     cut-range            a range cut in two
 --     halved-x, -y, -z     a block cut across an axis
 --     empty-x, -y, -z      a block with an empty range has no cell
 --     in-block             a cell of a block, by its places
---     by-ends              a block by its first and last cells
+--     by-ends              a box by its first and last cells
+--     one-cell, several    a block of one cell, and one of several
+--     cut-in-two           the halves of a cut, with the answer of its test
 --     part-room            a part of a block has room in the map
 -- Assumes nothing.
 use mathlib.Core.Bool.{Bool, true, false, _&&_, _||_, and-or-distrib-left, and-or-distrib-right}
 use mathlib.Core.List.{List}
-use mathlib.Core.Path.{_≡_, refl}
-use Prim.Native.Nat.{ℕ, _+_, _-_, _<_, _≤_}
+use mathlib.Core.Path.{_≡_, refl, ap, _∙_}
+use Prim.Native.Nat.{ℕ, _+_, _-_, _/_, _%_, _<_, _≤_}
 use native.Mathlib.Decide.{decLt}
 use native.Mathlib.Omega.{arith}
-use borrow.Author.Tests.{lt-ltb, le-ltb, le-leb, lt-leb, leb-true, ltb-true}
+use borrow.Author.Tests.{lt-ltb, le-ltb, le-leb, lt-leb, leb-true, ltb-true, eqb-true, eqb-false}
 use lib.Dec.{leb, ltb}
 use lib.IntN.{ℤ}
 use Rattle.overlap.specs.declared.BoxRange.{BoxRange}
 use Rattle.overlap.specs.declared.CellRange.{CellRange}
+use Rattle.overlap.specs.declared.Setup.{Setup}
+use Rattle.overlap.specs.Cut.{passing}
 use Rattle.overlap.specs.Range.{inRange}
-use Rattle.fill.specs.Block.{inBlock, range, blockOf, NonEmpty, Room, Part, Halved}
+use Rattle.grid.specs.Map.{bit}
+use Rattle.pending.specs.Pending.{halvings}
+use Rattle.pending.proofs.Laws.{fewer}
+use Rattle.fill.specs.declared.Block.{Block}
+use Rattle.fill.specs.Block.{inBlock, range, boxOf, widthOf, isCell, NonEmpty, Room, mayFill, Part, Halved, CutInTwo}
 
 -- ---- tests
 pub and-left : (p q : Bool) → (p && q) ≡ true → p ≡ true
@@ -51,7 +59,7 @@ range-empty r i h = go (decLt i (r .end))
         and-false true = refl
         and-false false = refl
 
-pub range-cut : (r : CellRange) (m : ℕ) → r .first ≤ m → m ≤ r .end → (i : ℕ)
+range-cut : (r : CellRange) (m : ℕ) → r .first ≤ m → m ≤ r .end → (i : ℕ)
     → inRange r i ≡ (inRange (record { first = r .first; end = m }) i || inRange (record { first = m; end = r .end }) i)
 range-cut r m ha hb i = go (decLt i m)
   where
@@ -75,39 +83,52 @@ in-block b i j k e =
       z = in-range (b .z) k (and-right (inRange (b .x) i && inRange (b .y) j) (inRange (b .z) k) e);
     }
 
-module _ (lx hx ly hy lz hz : ℕ) (some : NonEmpty (blockOf lx hx ly hy lz hz)) (m : ℕ) where
-  pub halved-x : lx ≤ m → m < hx → Halved (blockOf lx hx ly hy lz hz) (blockOf lx m ly hy lz hz) (blockOf (m + 1) hx ly hy lz hz)
-  unfolding inBlock
-  halved-x l h = record {
-    low-part = record { some = some-x lx m (omega arith); less = omega (arith, some); x = omega arith; y = omega arith; z = omega arith };
-    high-part = record { some = some-x (m + 1) hx (omega arith); less = omega (arith, some); x = omega arith; y = omega arith; z = omega arith };
-    both = λ i j k. rw (range-cut (range lx hx) (m + 1) (omega arith) (omega arith) i, and-or-distrib-right, and-or-distrib-right);
-  }
-    where
-      some-x : (a b : ℕ) → a < b + 1 → NonEmpty (blockOf a b ly hy lz hz)
-      some-x a b h = record { x = h; y = some .y; z = some .z }
+-- ---- a block cut in two
+-- A range cut in two: both parts have cells, and fewer halvings cut them into single cells.
+pub record CutRange (r low high : CellRange) : Type 0 where
+  pub low-some : low .first < low .end
+  pub high-some : high .first < high .end
+  pub low-less : halvings (widthOf low) < halvings (widthOf r)
+  pub high-less : halvings (widthOf high) < halvings (widthOf r)
+  pub low-end : low .end ≤ r .end
+  pub high-end : high .end ≤ r .end
+  pub both : (i : ℕ) → inRange r i ≡ (inRange low i || inRange high i)
 
-  pub halved-y : ly ≤ m → m < hy → Halved (blockOf lx hx ly hy lz hz) (blockOf lx hx ly m lz hz) (blockOf lx hx (m + 1) hy lz hz)
-  unfolding inBlock
-  halved-y l h = record {
-    low-part = record { some = some-y ly m (omega arith); less = omega (arith, some); x = omega arith; y = omega arith; z = omega arith };
-    high-part = record { some = some-y (m + 1) hy (omega arith); less = omega (arith, some); x = omega arith; y = omega arith; z = omega arith };
-    both = λ i j k. rw (range-cut (range ly hy) (m + 1) (omega arith) (omega arith) j, and-or-distrib-left, and-or-distrib-right);
-  }
-    where
-      some-y : (a b : ℕ) → a < b + 1 → NonEmpty (blockOf lx hx a b lz hz)
-      some-y a b h = record { x = some .x; y = h; z = some .z }
+pub cut-range : (l h m : ℕ) → m ≡ (l + h) / 2 → l < h → h < 64 → CutRange (range l h) (range l m) (range (m + 1) h)
+cut-range l h m e some most = record {
+  low-some = omega arith;
+  high-some = omega arith;
+  low-less = fewer (m + 1 - l) (h + 1 - l) (omega arith) (omega arith) (omega arith);
+  high-less = fewer (h + 1 - (m + 1)) (h + 1 - l) (omega arith) (omega arith) (omega arith);
+  low-end = omega arith;
+  high-end = omega arith;
+  both = range-cut (range l h) (m + 1) (omega arith) (omega arith);
+}
 
-  pub halved-z : lz ≤ m → m < hz → Halved (blockOf lx hx ly hy lz hz) (blockOf lx hx ly hy lz m) (blockOf lx hx ly hy (m + 1) hz)
+module _ (b : BoxRange) (some : NonEmpty b) {low high : CellRange} where
+  pub halved-x : CutRange (b .x) low high → Halved b (record { x = low; y = b .y; z = b .z }) (record { x = high; y = b .y; z = b .z })
   unfolding inBlock
-  halved-z l h = record {
-    low-part = record { some = some-z lz m (omega arith); less = omega (arith, some); x = omega arith; y = omega arith; z = omega arith };
-    high-part = record { some = some-z (m + 1) hz (omega arith); less = omega (arith, some); x = omega arith; y = omega arith; z = omega arith };
-    both = λ i j k. rw (range-cut (range lz hz) (m + 1) (omega arith) (omega arith) k, and-or-distrib-left);
+  halved-x c = record {
+    low-part = record { some = record { x = c .low-some; y = some .y; z = some .z }; less = omega arith; x = c .low-end; y = omega arith; z = omega arith };
+    high-part = record { some = record { x = c .high-some; y = some .y; z = some .z }; less = omega arith; x = c .high-end; y = omega arith; z = omega arith };
+    both = λ i j k. rw (c .both i, and-or-distrib-right, and-or-distrib-right);
   }
-    where
-      some-z : (a b : ℕ) → a < b + 1 → NonEmpty (blockOf lx hx ly hy a b)
-      some-z a b h = record { x = some .x; y = some .y; z = h }
+
+  pub halved-y : CutRange (b .y) low high → Halved b (record { x = b .x; y = low; z = b .z }) (record { x = b .x; y = high; z = b .z })
+  unfolding inBlock
+  halved-y c = record {
+    low-part = record { some = record { x = some .x; y = c .low-some; z = some .z }; less = omega arith; x = omega arith; y = c .low-end; z = omega arith };
+    high-part = record { some = record { x = some .x; y = c .high-some; z = some .z }; less = omega arith; x = omega arith; y = c .high-end; z = omega arith };
+    both = λ i j k. rw (c .both j, and-or-distrib-left, and-or-distrib-right);
+  }
+
+  pub halved-z : CutRange (b .z) low high → Halved b (record { x = b .x; y = b .y; z = low }) (record { x = b .x; y = b .y; z = high })
+  unfolding inBlock
+  halved-z c = record {
+    low-part = record { some = record { x = some .x; y = some .y; z = c .low-some }; less = omega arith; x = omega arith; y = omega arith; z = c .low-end };
+    high-part = record { some = record { x = some .x; y = some .y; z = c .high-some }; less = omega arith; x = omega arith; y = omega arith; z = c .high-end };
+    both = λ i j k. rw (c .both k, and-or-distrib-left);
+  }
 
 -- A block with an empty range has no cell.
 none-right : (p q : Bool) → q ≡ false → (p && q) ≡ false
@@ -127,17 +148,48 @@ module _ (b : BoxRange) (i j k : ℕ) where
   unfolding inBlock
   empty-z h = none-right (inRange (b .x) i && inRange (b .y) j) (inRange (b .z) k) (range-empty (b .z) k h)
 
--- A block that is not empty, by the first and the last cell on each axis.
-pub by-ends : (b : BoxRange) → NonEmpty b → b ≡ blockOf (b .x .first) (b .x .end - 1) (b .y .first) (b .y .end - 1) (b .z .first) (b .z .end - 1)
+-- A box that is not empty, by its first and its last cell on each axis.
+abbrev pub ends : BoxRange → Block
+ends b = record { lx = b .x .first; hx = b .x .end - 1; ly = b .y .first; hy = b .y .end - 1; lz = b .z .first; hz = b .z .end - 1 }
+
+pub by-ends : (b : BoxRange) → NonEmpty b → b ≡ boxOf (ends b)
 by-ends b some =
     let x : b .x .end ≡ b .x .end - 1 + 1 = omega (arith, some .x) in
     let y : b .y .end ≡ b .y .end - 1 + 1 = omega (arith, some .y) in
     let z : b .z .end ≡ b .z .end - 1 + 1 = omega (arith, some .z) in
     λ i. record { x = record { first = b .x .first; end = x i }; y = record { first = b .y .first; end = y i }; z = record { first = b .z .first; end = z i } }
 
+-- A block of one cell, and one of several.
+pub one-cell : (b : Block) → NonEmpty (boxOf b) → isCell b ≡ true → (b .lx ≡ b .hx) × (b .ly ≡ b .hy) × (b .lz ≡ b .hz)
+one-cell b some e = omega (arith, eqb-true (b .lx + b .ly + b .lz) (b .hx + b .hy + b .hz) e, some)
+
+pub several : (b : Block) → NonEmpty (boxOf b) → isCell b ≡ false → b .lx + b .ly + b .lz < b .hx + b .hy + b .hz
+several b some e = let ne = eqb-false (b .lx + b .ly + b .lz) (b .hx + b .hy + b .hz) e in omega (arith, some)
+
+-- The halves of a cut, with the answer of its test.
+pub cut-in-two : {f : Setup} {b low high : Block} {n : ℕ} → Halved (boxOf b) (boxOf low) (boxOf high) → n ≡ passing (mayFill f low) (mayFill f high)
+    → CutInTwo f b (record { low = low; high = high; lower = n % 2; upper = n / 2 })
+cut-in-two {f} {b} {low} {high} {n} h e = record {
+  halved = h;
+  lower = ap (λ (m : ℕ). m % 2) e ∙ odd (mayFill f low) (mayFill f high);
+  upper = ap (λ (m : ℕ). m / 2) e ∙ half (mayFill f low) (mayFill f high);
+}
+  where
+    odd : (l u : Bool) → passing l u % 2 ≡ bit l
+    odd true true = refl
+    odd true false = refl
+    odd false true = refl
+    odd false false = refl
+
+    half : (l u : Bool) → passing l u / 2 ≡ bit u
+    half true true = refl
+    half true false = refl
+    half false true = refl
+    half false false = refl
+
 -- A part of a block has room where the block has.
-pub part-room : {forms : List ℤ} {bytes bytes′ : ℕ} {b p : BoxRange} → Room forms bytes b → Part b p → bytes′ ≡ bytes → Room forms bytes′ p
-part-room r h e = record {
+pub part-room : {forms : List ℤ} {bytes : ℕ} {b p : BoxRange} → Room forms bytes b → Part b p → Room forms bytes p
+part-room r h = record {
   nx = r .nx;
   ny = r .ny;
   nx-most = r .nx-most;
@@ -145,5 +197,5 @@ part-room r h e = record {
   x = omega (arith, r .x, h .x);
   y = omega (arith, r .y, h .y);
   z = omega (arith, r .z, h .z);
-  cells = λ i j k hi hj hk. rw e (r .cells i j k hi hj (omega (arith, hk, h .z)));
+  cells = λ i j k hi hj hk. r .cells i j k hi hj (omega (arith, hk, h .z));
 }

@@ -1,9 +1,10 @@
 -- The ways in which a block is filled.
+--     none-wanted    a form rules the block out: no cell of it is wanted
+--     both-wanted    the block is cut in two: its wanted cells are those of its halves
 --     fills-none     a form rules the block out: nothing changes
 --     fills-cell     the block is one cell, and no form rules it out: the cell is filled
---     fills-both     the block is cut in two, and its halves are filled one after the other
 -- Assumes nothing.
-use mathlib.Core.Bool.{Bool, true, false, _&&_, _||_, and-or-distrib-right, or-assoc, or-comm, or-false}
+use mathlib.Core.Bool.{Bool, true, false, _&&_, _||_, and-or-distrib-right, or-comm, or-false}
 use mathlib.Core.List.{List}
 use mathlib.Core.Path.{_≡_, refl, sym, ap, _∙_}
 use Prim.Native.Nat.{ℕ, _*_, _<_}
@@ -22,7 +23,8 @@ use Rattle.grid.specs.Cells.{cellNumber, xOfCell, yOfCell, zOfCell}
 use Rattle.grid.specs.Map.{isFilled, withFilled}
 use Rattle.grid.proofs.Filled.{filled-with, length-with}
 use Rattle.grid.proofs.Numbers.{x-of, y-of, z-of, number-of}
-use Rattle.fill.specs.Block.{inBlock, range, blockOf, Halved, cellTest, blockMay, wanted, FillsFor}
+use Rattle.fill.specs.declared.Block.{Block}
+use Rattle.fill.specs.Block.{inBlock, range, boxOf, Halved, cellTest, mayFill, wanted, FillsFor}
 use Rattle.fill.proofs.Blocks.{in-block, range-in}
 
 -- ---- tests
@@ -36,34 +38,31 @@ apart t f = let z : _≡_ {A = ℕ} 0 1 = cc in omega arith
 
 module _ (nx ny : ℕ) (f : Setup) where
   -- the numbers of a block's cell lie between those of its first and of its last cell
-  cell-in : (lx hx ly hy lz hz i j k : ℕ) → inBlock (blockOf lx hx ly hy lz hz) i j k ≡ true → InBlock (cellPoint lx ly lz) (cellPoint hx hy hz) (cellPoint i j k)
-  cell-in lx hx ly hy lz hz i j k e =
-      let a = in-block (blockOf lx hx ly hy lz hz) i j k e in
+  cell-in : (b : Block) (i j k : ℕ) → inBlock (boxOf b) i j k ≡ true → InBlock (cellPoint (b .lx) (b .ly) (b .lz)) (cellPoint (b .hx) (b .hy) (b .hz)) (cellPoint i j k)
+  cell-in b i j k e =
+      let a = in-block (boxOf b) i j k e in
       record {
         x = (pos-le (a .x .0), pos-le (omega arith));
         y = (pos-le (a .y .0), pos-le (omega arith));
         z = (pos-le (a .z .0), pos-le (omega arith));
       }
 
-  pub fills-none : (lx hx ly hy lz hz : ℕ) (s : List ℕ) → blockMay f lx hx ly hy lz hz ≡ false → FillsFor nx ny f (blockOf lx hx ly hy lz hz) s s
+  -- no cell is wanted in a block that a form rules out
+  pub none-wanted : (b : Block) → mayFill f b ≡ false → (n : ℕ) → wanted nx ny f (boxOf b) n ≡ false
   unfolding wanted
-  fills-none lx hx ly hy lz hz s never = record {
-    len = refl;
-    cells = λ n.
-        let i = xOfCell nx n in
-        let j = yOfCell nx ny n in
-        let k = zOfCell nx ny n in
-        rw (none (inBlock (blockOf lx hx ly hy lz hz) i j k) (cellTest f i j k) (λ e h. apart (cell-block (cell-in lx hx ly hy lz hz i j k e) f h) never)) (sym (or-false (isFilled s n)));
-  }
+  none-wanted b never n =
+      let i = xOfCell nx n in
+      let j = yOfCell nx ny n in
+      let k = zOfCell nx ny n in
+      none (inBlock (boxOf b) i j k) (cellTest f i j k) (λ e h. apart (cell-block (cell-in b i j k e) f h) never)
 
-  pub fills-both : (b low high : BoxRange) (s m e : List ℕ) → Halved b low high → FillsFor nx ny f low s m → FillsFor nx ny f high m e → FillsFor nx ny f b s e
+  pub fills-none : (b : Block) (s : List ℕ) → mayFill f b ≡ false → FillsFor nx ny f (boxOf b) s s
+  fills-none b s never = record { len = refl; cells = λ n. rw (none-wanted b never n) (sym (or-false (isFilled s n))) }
+
+  -- the wanted cells of a block are those of its halves
+  pub both-wanted : {b low high : BoxRange} → Halved b low high → (n : ℕ) → wanted nx ny f b n ≡ (wanted nx ny f low n || wanted nx ny f high n)
   unfolding wanted
-  fills-both b low high s m e cut first second = record {
-    len = second .len ∙ first .len;
-    cells = λ n.
-        second .cells n
-        ∙ rw (first .cells n, or-assoc, ← and-or-distrib-right, ← cut .both (xOfCell nx n) (yOfCell nx ny n) (zOfCell nx ny n));
-  }
+  both-wanted cut n = rw (← and-or-distrib-right, ← cut .both (xOfCell nx n) (yOfCell nx ny n) (zOfCell nx ny n))
 
   -- a block with no cell
   pub fills-empty : (b : BoxRange) (s : List ℕ) → ((i j k : ℕ) → inBlock b i j k ≡ false) → FillsFor nx ny f b s s
@@ -76,7 +75,7 @@ module _ (nx ny : ℕ) (f : Setup) where
   -- ---- a block of one cell
   module _ (i0 j0 k0 : ℕ) (i-in : i0 < nx) (j-in : j0 < ny) where
     abbrev one : BoxRange
-    one = blockOf i0 i0 j0 j0 k0 k0
+    one = record { x = range i0 i0; y = range j0 j0; z = range k0 k0 }
 
     abbrev number : ℕ
     number = cellNumber nx ny i0 j0 k0

@@ -3,7 +3,7 @@ use mathlib.Core.Bool.{Bool, true, false, _&&_, _||_}
 use mathlib.Core.List.{List}
 use mathlib.Core.Path.{_≡_}
 use Prim.Native.Nat.{ℕ, _+_, _-_, _*_, _<_, _≤_}
-use lib.Dec.{ltb}
+use lib.Dec.{eqb, ltb}
 use lib.IntN.{ℤ, pos}
 use lib.ListN.{length, getD}
 use lib.Signed.{_≤ℤ_}
@@ -18,8 +18,10 @@ use Rattle.overlap.specs.Grid.{cellPoint}
 use Rattle.overlap.specs.Lent.{setupAt, cellsX, cellsY}
 use Rattle.overlap.specs.Range.{inRange}
 use Rattle.grid.specs.Cells.{cellNumber, xOfCell, yOfCell, zOfCell}
-use Rattle.grid.specs.Map.{isFilled}
+use Rattle.grid.specs.Map.{isFilled, bit}
+use Rattle.pending.specs.Pending.{halvings}
 use Rattle.frame.specs.declared.Header.{Header}
+use Rattle.fill.specs.declared.Block.{Block}
 use Rattle.fill.specs.declared.Grid.{Grid}
 use Rattle.fill.specs.declared.Halves.{Halves}
 use Rattle.fill.specs.Steel.{gridAt, cellCount, fillsCell, filledBy}
@@ -33,19 +35,24 @@ gridOf g = record { origin = point (g .x) (g .y) (g .z); edge = g .edge; nx = g 
 unfoldable pub inBlock : BoxRange → (i j k : ℕ) → Bool
 inBlock b i j k = inRange (b .x) i && inRange (b .y) j && inRange (b .z) k
 
--- The block from the first to the last cell on each axis.
-abbrev pub range : (l h : ℕ) → CellRange
+-- The cells of an axis from the first to the last.
+abbrev pub range : (first last : ℕ) → CellRange
 range l h = record { first = l; end = h + 1 }
 
-abbrev pub blockOf : (lx hx ly hy lz hz : ℕ) → BoxRange
-blockOf lx hx ly hy lz hz = record { x = range lx hx; y = range ly hy; z = range lz hz }
+-- The code's block as ranges.
+abbrev pub boxOf : Block → BoxRange
+boxOf b = record { x = range (b .lx) (b .hx); y = range (b .ly) (b .hy); z = range (b .lz) (b .hz) }
 
 abbrev pub widthOf : CellRange → ℕ
 widthOf r = r .end - r .first
 
--- The sum of a block's sides: 3 is a single cell.
-abbrev pub sizeOf : BoxRange → ℕ
-sizeOf b = widthOf (b .x) + widthOf (b .y) + widthOf (b .z)
+-- How many halvings lead from the block to single cells, at most.
+abbrev pub depthOf : BoxRange → ℕ
+depthOf b = halvings (widthOf (b .x)) + halvings (widthOf (b .y)) + halvings (widthOf (b .z))
+
+-- The first cell of the block is its last.
+abbrev pub isCell : Block → Bool
+isCell b = eqb (b .lx + b .ly + b .lz) (b .hx + b .hy + b .hz)
 
 pub record NonEmpty (b : BoxRange) : Type 0 where
   pub x : b .x .first < b .x .end
@@ -68,15 +75,21 @@ pub record Room (forms : List ℤ) (bytes : ℕ) (b : BoxRange) : Type 0 where
   pub z : b .z .end ≤ 64
   pub cells : (i j k : ℕ) → i < cellsX forms → j < cellsY forms → k < b .z .end → cellNumber (cellsX forms) (cellsY forms) i j k < 8 * bytes
 
--- ---- a block cut in two
 -- No form rules out the whole block.
-abbrev pub blockMay : Setup → (lx hx ly hy lz hz : ℕ) → Bool
-blockMay f lx hx ly hy lz hz = blockTest f (cellPoint lx ly lz) (cellPoint hx hy hz)
+abbrev pub mayFill : Setup → Block → Bool
+mayFill f b = blockTest f (cellPoint (b .lx) (b .ly) (b .lz)) (cellPoint (b .hx) (b .hy) (b .hz))
 
--- p is a smaller part of the block b.
+-- A block that is filled cell by cell: it has cells, the map has room for them, and no form rules it out.
+pub record Enters (forms : List ℤ) (bytes : ℕ) (b : Block) : Type 0 where
+  pub room : Room forms bytes (boxOf b)
+  pub some : NonEmpty (boxOf b)
+  pub may : mayFill (setupAt forms) b ≡ true
+
+-- ---- a block cut in two
+-- p is a part of the block b that fewer halvings cut into cells.
 pub record Part (b p : BoxRange) : Type 0 where
   pub some : NonEmpty p
-  pub less : sizeOf p < sizeOf b
+  pub less : depthOf p < depthOf b
   pub x : p .x .end ≤ b .x .end
   pub y : p .y .end ≤ b .y .end
   pub z : p .z .end ≤ b .z .end
@@ -87,18 +100,18 @@ pub record Halved (b low high : BoxRange) : Type 0 where
   pub both : (i j k : ℕ) → inBlock b i j k ≡ (inBlock low i j k || inBlock high i j k)
 
 -- What a cut asks of a block, and what it answers: the halves, and whether a form rules out each.
-pub record CutReady (f : Setup) (lx hx ly hy lz hz : ℕ) : Type 0 where
-  pub some : NonEmpty (blockOf lx hx ly hy lz hz)
-  pub x : hx < 64
-  pub y : hy < 64
-  pub z : hz < 64
+pub record CutReady (f : Setup) (b : Block) : Type 0 where
+  pub some : NonEmpty (boxOf b)
+  pub x : b .hx < 64
+  pub y : b .hy < 64
+  pub z : b .hz < 64
   pub bounded : BoundedSetup f
-  pub may : blockMay f lx hx ly hy lz hz ≡ true
+  pub may : mayFill f b ≡ true
 
-pub record CutInTwo (f : Setup) (lx hx ly hy lz hz : ℕ) (r : Halves) : Type 0 where
-  pub halved : Halved (blockOf lx hx ly hy lz hz) (blockOf lx (r .hx) ly (r .hy) lz (r .hz)) (blockOf (r .lx) hx (r .ly) hy (r .lz) hz)
-  pub lower : r .lower ≡ blockMay f lx (r .hx) ly (r .hy) lz (r .hz)
-  pub upper : r .upper ≡ blockMay f (r .lx) hx (r .ly) hy (r .lz) hz
+pub record CutInTwo (f : Setup) (b : Block) (r : Halves) : Type 0 where
+  pub halved : Halved (boxOf b) (boxOf (r .low)) (boxOf (r .high))
+  pub lower : r .lower ≡ bit (mayFill f (r .low))
+  pub upper : r .upper ≡ bit (mayFill f (r .high))
 
 -- ---- filling a block
 -- No form of the set-up rules out cell (i, j, k).

@@ -1,9 +1,8 @@
--- The test of a block's halves. Where no form rules out a block, `cut-x`, `cut-y` and `cut-z` say that the test of a cut across the axis gives the block
--- test of each half.
+-- The test of a block's halves. Where no form rules out a block, `cut-x`, `cut-y` and `cut-z` say that the test of a cut across the axis answers the halves
+-- that pass the block test.
 use mathlib.Core.Path.{_≡_, refl, sym, ap, ap₂, _∙_}
 use mathlib.Core.Bool.{Bool, true, false, not, cond, _&&_, _||_, and-eq-true-iff, and-true, and-assoc, and-comm}
 use mathlib.Core.List.{[], _∷_}
-use Prim.Native.Nat.{ℕ}
 use lib.IntN.{ℤ, pos, _+ℤ_, _*ℤ_}
 use lib.Signed.{leZ, ltZ}
 use Rattle.integers.proofs.Expr.{var, _⊕_}
@@ -15,7 +14,7 @@ use Rattle.overlap.specs.declared.Setup.{Setup}
 use Rattle.overlap.specs.Geometry.{Point, point}
 use Rattle.overlap.specs.Bounds.{BoundedSetup}
 use Rattle.overlap.specs.Block.{farEnd, farValue, planeTest, edgeTest, edgesTest, blockTest}
-use Rattle.overlap.specs.Cut.{edgeHalf, edgesHalf, planeHalf, flipEdge, flipEdges, lowerPasses, upperPasses, CutPasses}
+use Rattle.overlap.specs.Cut.{edgeHalf, edgesHalf, planeHalf, flipEdge, flipEdges, passing, cutPasses}
 
 -- ---- one form
 -- A form that holds over the range from l to h, as a test of the end where it is greatest: the first end where t holds, else the second. The range is cut
@@ -111,10 +110,9 @@ module _ (f : Setup) (low high : Point) (m : ℤ) where
   kept : yz low high ≡ true → (a b : Bool) → (a && b) ≡ (a && yz low high && b)
   kept e a b = ap (λ (y : Bool). y && b) (sym (and-true a) ∙ ap (λ (y : Bool). a && y) (sym e))
 
-  pub cut-x : blockTest f low high ≡ true → {r : ℕ} → CutPasses f m (low .y) (high .y) (low .z) (high .z) r
-      → (lowerPasses r ≡ blockTest f low low-end) × (upperPasses r ≡ blockTest f high-end high)
+  pub cut-x : blockTest f low high ≡ true → cutPasses f m (low .y) (high .y) (low .z) (high .z) ≡ passing (blockTest f low low-end) (blockTest f high-end high)
   unfolding blockTest
-  cut-x e c =
+  cut-x e =
       let plane : (low high : Point) → Bool = planeTest (f .plane) in
       let t = ltZ (f .plane .nx) (pos 0) in
       let m′ = m +ℤ pos 1 in
@@ -125,20 +123,18 @@ module _ (f : Setup) (low high : Point) (m : ℤ) where
       let plane-half : Bool → Bool = λ u. planeHalf u (f .plane) m (low .y) (high .y) (low .z) (high .z) in
       let first-half : Bool → Bool = λ u. edgesHalf u (f .xy) m (low .y) (high .y) in
       let last-half : Bool → Bool = λ u. edgesHalf u (flipEdges (f .zx)) m (low .z) (high .z) in
-      let flipped = flip-tests (f .zx) (low .z) (high .z) (low .x) (high .x) ∙ hzx in (
-        c .lower
-            ∙ sym (and-assoc (plane-half false) (first-half false) (last-half false))
-            ∙ ap₂ _&&_
-            (ap₂ _&&_ (plane-below least greatest (low .x) (high .x) m m′ t l g) (edges-below m (low .x) (high .x) (low .y) (high .y) (f .xy) hxy))
-            (edges-below m (low .x) (high .x) (low .z) (high .z) (flipEdges (f .zx)) flipped ∙ flip-tests (f .zx) (low .z) (high .z) (low .x) m)
-            ∙ kept hyz (plane low low-end && xy low low-end) (zx low low-end),
-        c .upper
-            ∙ sym (and-assoc (plane-half true) (first-half true) (last-half true))
-            ∙ ap₂ _&&_
-            (ap₂ _&&_ (plane-above least greatest (low .x) (high .x) m m′ t l g) (edges-above m (low .x) (high .x) (low .y) (high .y) (f .xy) hxy))
-            (edges-above m (low .x) (high .x) (low .z) (high .z) (flipEdges (f .zx)) flipped ∙ flip-tests (f .zx) (low .z) (high .z) m′ (high .x))
-            ∙ kept hyz (plane high-end high && xy high-end high) (zx high-end high),
-      )
+      let flipped = flip-tests (f .zx) (low .z) (high .z) (low .x) (high .x) ∙ hzx in
+      ap₂ passing
+      (sym (and-assoc (plane-half false) (first-half false) (last-half false))
+      ∙ ap₂ _&&_
+      (ap₂ _&&_ (plane-below least greatest (low .x) (high .x) m m′ t l g) (edges-below m (low .x) (high .x) (low .y) (high .y) (f .xy) hxy))
+      (edges-below m (low .x) (high .x) (low .z) (high .z) (flipEdges (f .zx)) flipped ∙ flip-tests (f .zx) (low .z) (high .z) (low .x) m)
+      ∙ kept hyz (plane low low-end && xy low low-end) (zx low low-end))
+      (sym (and-assoc (plane-half true) (first-half true) (last-half true))
+      ∙ ap₂ _&&_
+      (ap₂ _&&_ (plane-above least greatest (low .x) (high .x) m m′ t l g) (edges-above m (low .x) (high .x) (low .y) (high .y) (f .xy) hxy))
+      (edges-above m (low .x) (high .x) (low .z) (high .z) (flipEdges (f .zx)) flipped ∙ flip-tests (f .zx) (low .z) (high .z) m′ (high .x))
+      ∙ kept hyz (plane high-end high && xy high-end high) (zx high-end high))
 
 -- ---- the axes taken in turn: y, z, x
 abbrev turnPoint : Point → Point
@@ -183,15 +179,14 @@ turn-test f low high =
     && edgesTest (f .zx) (low .z) (high .z) (low .x) (high .x))
     (turn-plane (f .plane) low high)
 
-pub cut-y : (f : Setup) (low high : Point) (m : ℤ) → blockTest f low high ≡ true → {r : ℕ} → CutPasses (turnSetup f) m (low .z) (high .z) (low .x) (high .x) r
-    → (lowerPasses r ≡ blockTest f low (point (high .x) m (high .z))) × (upperPasses r ≡ blockTest f (point (low .x) (m +ℤ pos 1) (low .z)) high)
-cut-y f low high m e c =
-    let h = cut-x (turnSetup f) (turnPoint low) (turnPoint high) m (turn-test f low high ∙ e) c in
-    (h .0 ∙ turn-test f low (point (high .x) m (high .z)), h .1 ∙ turn-test f (point (low .x) (m +ℤ pos 1) (low .z)) high)
+pub cut-y : (f : Setup) (low high : Point) (m : ℤ) → blockTest f low high ≡ true → cutPasses (turnSetup f) m (low .z) (high .z) (low .x) (high .x)
+    ≡ passing (blockTest f low (point (high .x) m (high .z))) (blockTest f (point (low .x) (m +ℤ pos 1) (low .z)) high)
+cut-y f low high m e =
+    cut-x (turnSetup f) (turnPoint low) (turnPoint high) m (turn-test f low high ∙ e)
+    ∙ ap₂ passing (turn-test f low (point (high .x) m (high .z))) (turn-test f (point (low .x) (m +ℤ pos 1) (low .z)) high)
 
-pub cut-z : (f : Setup) (low high : Point) (m : ℤ) → blockTest f low high ≡ true → {r : ℕ}
-    → CutPasses (turnSetup (turnSetup f)) m (low .x) (high .x) (low .y) (high .y) r
-    → (lowerPasses r ≡ blockTest f low (point (high .x) (high .y) m)) × (upperPasses r ≡ blockTest f (point (low .x) (low .y) (m +ℤ pos 1)) high)
-cut-z f low high m e c =
-    let h = cut-y (turnSetup f) (turnPoint low) (turnPoint high) m (turn-test f low high ∙ e) c in
-    (h .0 ∙ turn-test f low (point (high .x) (high .y) m), h .1 ∙ turn-test f (point (low .x) (low .y) (m +ℤ pos 1)) high)
+pub cut-z : (f : Setup) (low high : Point) (m : ℤ) → blockTest f low high ≡ true → cutPasses (turnSetup (turnSetup f)) m (low .x) (high .x) (low .y) (high .y)
+    ≡ passing (blockTest f low (point (high .x) (high .y) m)) (blockTest f (point (low .x) (low .y) (m +ℤ pos 1)) high)
+cut-z f low high m e =
+    cut-y (turnSetup f) (turnPoint low) (turnPoint high) m (turn-test f low high ∙ e)
+    ∙ ap₂ passing (turn-test f low (point (high .x) (high .y) m)) (turn-test f (point (low .x) (low .y) (m +ℤ pos 1)) high)

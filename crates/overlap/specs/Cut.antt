@@ -3,8 +3,7 @@
 use mathlib.Core.Bool.{Bool, true, false, not, cond, _&&_, _||_}
 use mathlib.Core.List.{List}
 use mathlib.Core.Path.{_≡_}
-use Prim.Native.Nat.{ℕ, _+_, _%_, _<_}
-use lib.Dec.{eqb, leb}
+use Prim.Native.Nat.{ℕ, _+_, _<_}
 use lib.IntN.{ℤ, pos, _+ℤ_}
 use lib.Signed.{leZ, ltZ}
 use Rattle.overlap.specs.declared.PlaneForms.{PlaneForms}
@@ -49,16 +48,12 @@ halfTest upper f middle lb hb lc hc =
     planeHalf upper (f .plane) middle lb hb lc hc && (edgesHalf upper (f .xy) middle lb hb && edgesHalf upper (flipEdges (f .zx)) middle lc hc)
 
 -- The halves that pass, as a number: 1 for the lower half and 2 for the upper, added.
-abbrev pub lowerPasses : ℕ → Bool
-lowerPasses r = eqb (r % 2) 1
+abbrev pub passing : (lower upper : Bool) → ℕ
+passing lower upper = cond lower 1 0 + cond upper 2 0
 
-abbrev pub upperPasses : ℕ → Bool
-upperPasses r = leb 2 r
-
--- What the test of a cut answers for each half.
-pub record CutPasses (f : Setup) (middle lb hb lc hc : ℤ) (r : ℕ) : Type 0 where
-  pub lower : lowerPasses r ≡ halfTest false f middle lb hb lc hc
-  pub upper : upperPasses r ≡ halfTest true f middle lb hb lc hc
+-- What the test of a cut answers.
+abbrev pub cutPasses : Setup → (middle lb hb lc hc : ℤ) → ℕ
+cutPasses f middle lb hb lc hc = passing (halfTest false f middle lb hb lc hc) (halfTest true f middle lb hb lc hc)
 
 -- The edges that see the cut, in a list where the numbers of the axis that is cut start at a, and those of the axis before it at c; and their bounds.
 abbrev pub firstEdges : List ℤ → (a : ℕ) → EdgeForms
@@ -93,6 +88,5 @@ pub record RuledOut (lower upper : Bool) (test : Bool → Bool) (r : ℕ) : Type
   pub known : r < 4
 
 -- The halves that pass both tests.
-pub record EdgesPass (lower upper : Bool) (test : Bool → Bool) (r : ℕ) : Type 0 where
-  pub below : lowerPasses r ≡ (lower && test false)
-  pub above : upperPasses r ≡ (upper && test true)
+abbrev pub edgesPass : (lower upper : Bool) (test : Bool → Bool) → ℕ
+edgesPass lower upper test = passing (lower && test false) (upper && test true)

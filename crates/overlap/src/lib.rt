@@ -16,7 +16,7 @@ ghost use Rattle.overlap.specs.Bounds.{BoundedPoint, BoundedTriangle, Tr
 ghost use Rattle.overlap.specs.Setup.{pointOf, triangleOf, component, planeForms, edgeForm, edgeForms, SetupFor};
 ghost use Rattle.overlap.specs.Block.{farEnd, farValue, planeTest, formTest, edgeTest, edgesTest, blockTest};
 ghost use Rattle.overlap.specs.Lent.{formList, edgeFrom, edgesFrom, planeFrom, setupFrom, setupAt, planeValue, PlaneNumbers, FormsFor, cellsX, cellsY};
-ghost use Rattle.overlap.specs.Cut.{spares, edgeHalf, edgesHalf, planeHalf, cutEdges, CutForms, Rules, RuledOut, EdgesPass, CutPasses};
+ghost use Rattle.overlap.specs.Cut.{spares, edgeHalf, edgesHalf, planeHalf, cutEdges, CutForms, Rules, RuledOut, edgesPass, cutPasses};
 ghost use Rattle.overlap.specs.Range.{Picks, endsFrom, beginsBy, gridOf, PicksBox};
 
 // A point, or a vector.
@@ -639,7 +639,7 @@ fn halves_pass(
     hc: i64,
 ) -> usize
     requires { ⌜ CutForms (now forms) a c × Withins (cutBounds 4) (middle ∷ lb ∷ hb ∷ lc ∷ hc ∷ []) ⌝ }
-    ensures { λ r. ⌜ EdgesPass lower upper (λ u. cutEdges u (now (forms .entry)) a c middle lb hb lc hc) r ⌝ }
+    ensures { λ r. ⌜ r ≡ edgesPass lower upper (λ u. cutEdges u (now (forms .entry)) a c middle lb hb lc hc) ⌝ }
 {
     let ruled = ruled_out(lower, upper, forms, a, c, middle, lb, hb, lc, hc);
     if ruled == 0 {
@@ -670,7 +670,7 @@ pub fn cut_test(
     hc: usize,
 ) -> usize
     requires { ⌜ (a < 23) × (b < 23) × (c < 23) × BoundedSetup (setupFrom (now forms) a b c) × (middle < 64) × Indices (lb ∷ hb ∷ lc ∷ hc ∷ []) ⌝ }
-    ensures { λ r. ⌜ CutPasses (setupFrom (now (forms .entry)) a b c) (pos middle) (pos lb) (pos hb) (pos lc) (pos hc) r ⌝ }
+    ensures { λ r. ⌜ r ≡ cutPasses (setupFrom (now (forms .entry)) a b c) (pos middle) (pos lb) (pos hb) (pos lc) (pos hc) ⌝ }
 {
     let m = integers::from_index(middle);
     let b0 = integers::from_index(lb);

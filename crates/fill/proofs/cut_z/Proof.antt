@@ -1,37 +1,43 @@
 -- `fill::cut_z` meets its contract. Assumes nothing.
+use borrow.Author.Needs.{needs}
+use mathlib.Core.Path.{_∙_}
 use native.Mathlib.Omega.{arith}
 use lib.Dec.{lit<}
 use lib.IntN.{pos}
 use Rattle.overlap.specs.Grid.{cellPoint}
 use Rattle.overlap.specs.Lent.{setupAt}
 use Rattle.overlap.proofs.Cuts.{cut-z, turn-bounded}
-use Rattle.fill.proofs.Blocks.{halved-z}
+use Rattle.fill.specs.Block.{boxOf}
+use Rattle.fill.proofs.Blocks.{cut-range, halved-z, cut-in-two}
 use Rattle.fill.proofs.cut_z.Statement.{statement}
 use Rattle.fill.proofs.cut_z.Tie as tie
 
 cut-test-requires : tie.Need-cut-test-requires
 cut-test-requires c κs =
-    let p = c .before .pre .0 in
-    (lit< tt, lit< tt, lit< tt, turn-bounded (turn-bounded (p .bounded)), omega (arith, c .middle .ensures, p .z), (omega (arith, p .x, p .some), (omega (arith, p .x), (omega (arith, p .y, p .some), (omega (arith, p .y), tt)))))
+    let m = c .before .before .before .before in
+    let p = m .before .pre .0 in
+    (lit< tt, lit< tt, lit< tt, turn-bounded (turn-bounded (p .bounded)), omega (arith, m .middle .ensures, p .z, p .some), (omega (arith, p .x, p .some), (omega (arith, p .x), (omega (arith, p .y, p .some), (omega (arith, p .y), tt)))))
 
 returns : tie.Need-returns
 returns c =
-    let m = c .before in
-    let a = m .before .args in
-    let p = m .before .pre .0 in
+    let m = c .before .before .before .before .before in
+    let s = m .before in
+    let b = s .args .b in
+    let p = s .pre .0 in
     let n = m .middle .result in
-    let t = cut-z (setupAt (a .forms .now)) (cellPoint (a .lx) (a .ly) (a .lz)) (cellPoint (a .hx) (a .hy) (a .hz)) (pos n) (p .may) (c .cut-test .ensures) in
-    record {
-      halved = halved-z (a .lx) (a .hx) (a .ly) (a .hy) (a .lz) (a .hz) (p .some) n (m .middle .ensures .0) (m .middle .ensures .1);
-      lower = t .0;
-      upper = t .1;
-    }
+    cut-in-two (halved-z (boxOf b) (p .some) (cut-range (b .lz) (b .hz) n (m .middle .ensures) (s .pre .1) (p .z)))
+    (c .cut-test .ensures ∙ cut-z (setupAt (s .args .forms .now)) (cellPoint (b .lx) (b .ly) (b .lz)) (cellPoint (b .hx) (b .hy) (b .hz)) (pos n) (p .may))
 
 pub cut-z-spec : {M : Type 1} → statement M
 cut-z-spec =
     tie.close
     (tie.spec
-    (λ c κs. (c .pre .1, c .pre .0 .z))
+    (λ c κs. search needs)
+    (λ c. search needs)
+    (λ c. search needs)
+    (λ c. search needs)
+    (λ c. search needs)
+    (λ c. search needs)
     cut-test-requires
-    (λ c. omega (arith, c .before .middle .ensures, c .before .before .pre .0 .z))
+    (λ c. search needs)
     returns)

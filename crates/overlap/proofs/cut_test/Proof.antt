@@ -2,7 +2,7 @@
 use borrow.Author.Needs.{needs}
 use mathlib.Core.List.{List, [], _∷_}
 use mathlib.Core.Bool.{Bool, true, false, _&&_}
-use mathlib.Core.Path.{_≡_, ap, _∙_}
+use mathlib.Core.Path.{_≡_, ap, ap₂, _∙_}
 use Prim.Native.Nat.{_<_}
 use native.Mathlib.Omega.{arith}
 use lib.IntN.{ℤ, pos}
@@ -14,7 +14,7 @@ use Rattle.overlap.specs.declared.PlaneForms.{PlaneForms}
 use Rattle.overlap.specs.declared.Setup.{Setup}
 use Rattle.overlap.specs.Bounds.{cutBounds, BoundedEdges, BoundedPlane}
 use Rattle.overlap.specs.Lent.{planeFrom, setupFrom}
-use Rattle.overlap.specs.Cut.{planeHalf, edgesHalf, flipEdges, halfTest, lowerPasses, upperPasses}
+use Rattle.overlap.specs.Cut.{planeHalf, edgesHalf, flipEdges, halfTest, passing}
 use Rattle.overlap.proofs.Sizes.{within-index}
 use Rattle.overlap.proofs.cut_test.Statement.{statement}
 use Rattle.overlap.proofs.cut_test.Tie as tie
@@ -51,8 +51,8 @@ all = var 0 ∷ var 1 ∷ var 2 ∷ var 3 ∷ var 4 ∷ []
 abbrev Plane : (r upper : Bool) → PlaneForms → List ℤ → Type 0
 Plane r upper f l = r ≡ planeHalf upper f (nth l 0) (nth l 1) (nth l 2) (nth l 3) (nth l 4)
 
-abbrev Edges : (r upper passes : Bool) → Setup → List ℤ → Type 0
-Edges r upper passes f l = r ≡ (passes && (edgesHalf upper (f .xy) (nth l 0) (nth l 1) (nth l 2) && edgesHalf upper (flipEdges (f .zx)) (nth l 0) (nth l 3) (nth l 4)))
+abbrev edges : (upper passes : Bool) → Setup → List ℤ → Bool
+edges upper passes f l = passes && (edgesHalf upper (f .xy) (nth l 0) (nth l 1) (nth l 2) && edgesHalf upper (flipEdges (f .zx)) (nth l 0) (nth l 3) (nth l 4))
 
 flip-bounded : {f : EdgeForms} → BoundedEdges f → BoundedEdges (flipEdges f)
 flip-bounded h = record {
@@ -62,14 +62,11 @@ flip-bounded h = record {
 }
 
 -- a half, from the test of the plane and that of the edges
-half : (m : tie.After-from-index5) (upper r p : Bool) → let f = forms (start m) in Plane p upper (f .plane) (machs (ρ m) all) → Edges r upper p f (machs (ρ m) all)
-    → let a = start m .args in r ≡ halfTest upper f (pos (a .middle)) (pos (a .lb)) (pos (a .hb)) (pos (a .lc)) (pos (a .hc))
-half m upper r p plane edges =
+half : (m : tie.After-from-index5) (upper p : Bool) → let f = forms (start m) in Plane p upper (f .plane) (machs (ρ m) all)
+    → let a = start m .args in edges upper p f (ρ m) ≡ halfTest upper f (pos (a .middle)) (pos (a .lb)) (pos (a .hb)) (pos (a .lc)) (pos (a .hc))
+half m upper p plane =
     let f = forms (start m) in
-    let h = ins m in
-    let q = learnt (ρ m) (Plane p upper (f .plane)) all (cutBounds 4) tt h plane in
-    learnt (ρ m) (Edges r upper p f) all (cutBounds 4) tt h edges
-    ∙ ap (λ (b : Bool). b && (edgesHalf upper (f .xy) (nth (ρ m) 0) (nth (ρ m) 1) (nth (ρ m) 2) && edgesHalf upper (flipEdges (f .zx)) (nth (ρ m) 0) (nth (ρ m) 3) (nth (ρ m) 4))) q
+    ap (λ (b : Bool). edges upper b f (ρ m)) (learnt (ρ m) (Plane p upper (f .plane)) all (cutBounds 4) tt (ins m) plane)
     ∙ (λ i.
     halfTest upper f (m .before .before .before .before .from-index .ensures i) (m .before .before .before .from-index2 .ensures i) (m .before .before .from-index3 .ensures i)
     (m .before .from-index4 .ensures i) (m .from-index5 .ensures i))
@@ -79,10 +76,10 @@ returns c =
     let u = c .before in
     let l = u .before in
     let m = l .before in
-    record {
-      lower = half m false (lowerPasses (c .halves-pass .result)) (l .plane-half .result) (l .plane-half .ensures) (c .halves-pass .ensures .below);
-      upper = half m true (upperPasses (c .halves-pass .result)) (u .plane-half2 .result) (u .plane-half2 .ensures) (c .halves-pass .ensures .above);
-    }
+    let f = forms (start m) in
+    learnt (ρ m) (λ ns. c .halves-pass .result ≡ passing (edges false (l .plane-half .result) f ns) (edges true (u .plane-half2 .result) f ns)) all (cutBounds 4) tt (ins m)
+    (c .halves-pass .ensures)
+    ∙ ap₂ passing (half m false (l .plane-half .result) (l .plane-half .ensures)) (half m true (u .plane-half2 .result) (u .plane-half2 .ensures))
 
 -- what `plane_half` requires
 plane-required : (m : tie.After-from-index5) → let a = start m .args in

@@ -12,7 +12,7 @@ use lib.IntN.{ℤ}
 use Rattle.integers.proofs.Expr.{Expr, var, nth}
 use Rattle.integers.proofs.Machine.{bounded, learnt, cases}
 use Rattle.overlap.specs.Bounds.{cutBounds}
-use Rattle.overlap.specs.Cut.{cutEdges, lowerPasses, upperPasses, RuledOut}
+use Rattle.overlap.specs.Cut.{cutEdges, passing, RuledOut}
 use Rattle.overlap.proofs.halves_pass.Statement.{statement}
 use Rattle.overlap.proofs.halves_pass.Tie as tie
 
@@ -33,14 +33,14 @@ ruled c =
 returns : tie.Need-returns
 returns c =
     let (low, high, hold) = ruled (c .before) .neither (c .if1 .taken) in
-    record { below = sym (ap₂ _&&_ low (hold false)); above = sym (ap₂ _&&_ high (hold true)) }
+    sym (ap₂ passing (ap₂ _&&_ low (hold false)) (ap₂ _&&_ high (hold true)))
 
 returns-2 : tie.Need-returns-2
 returns-2 c =
     let o = c .before .before in
     let s = o .before in
     let (low, high) = ruled o .both (c .if2 .taken) in
-    record { below = sym (ap (λ (b : Bool). b && edges s (ρ s) false) low); above = sym (ap (λ (b : Bool). b && edges s (ρ s) true) high) }
+    sym (ap₂ passing (ap (λ (b : Bool). b && edges s (ρ s) false) low) (ap (λ (b : Bool). b && edges s (ρ s) true) high))
 
 -- the half that is left, and its test
 module _ (c : tie.After-half-passes) where
@@ -77,19 +77,15 @@ returns-3 : tie.Need-returns-3
 returns-3 c =
     let p = c .before in
     cases (which p)
-    (λ e.
-    let (low, high) = upper-left p e in
-    record { below = ap (λ (n : ℕ). lowerPasses (3 - n)) e ∙ low; above = ap (λ (n : ℕ). upperPasses (3 - n)) e ∙ sym (c .if3 .taken) ∙ high })
-    (λ e.
-    let (low, high) = lower-left p e in
-    record { below = ap (λ (n : ℕ). lowerPasses (3 - n)) e ∙ sym (c .if3 .taken) ∙ low; above = ap (λ (n : ℕ). upperPasses (3 - n)) e ∙ high })
+    (λ e. let (low, high) = upper-left p e in ap (λ (n : ℕ). 3 - n) e ∙ ap₂ passing low (sym (c .if3 .taken) ∙ high))
+    (λ e. let (low, high) = lower-left p e in ap (λ (n : ℕ). 3 - n) e ∙ ap₂ passing (sym (c .if3 .taken) ∙ low) high)
 
 returns-4 : tie.Need-returns-4
 returns-4 c =
     let p = c .before in
     cases (which p)
-    (λ e. let (low, high) = upper-left p e in record { below = low; above = sym (c .if3 .left) ∙ high })
-    (λ e. let (low, high) = lower-left p e in record { below = sym (c .if3 .left) ∙ low; above = high })
+    (λ e. let (low, high) = upper-left p e in ap₂ passing low (sym (c .if3 .left) ∙ high))
+    (λ e. let (low, high) = lower-left p e in ap₂ passing (sym (c .if3 .left) ∙ low) high)
 
 pub halves-pass-spec : {M : Type 1} → statement M
 halves-pass-spec =
