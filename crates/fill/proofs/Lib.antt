@@ -1,6 +1,3 @@
--- Blocks of cells, and the halves of one.
-pub mod Blocks
-pub mod Ways
 -- The cells of a triangle, and files within the overlap test's bounds.
 mod Triangles
 mod Ready

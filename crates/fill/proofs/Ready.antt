@@ -22,7 +22,7 @@ use Rattle.overlap.specs.Grid as overlap
 use Rattle.grid.specs.Map.{mapLength}
 use Rattle.fill.specs.declared.Grid.{Grid}
 use Rattle.fill.specs.Steel.{pointAt, triangleAt, gridAt, cellCount}
-use Rattle.fill.specs.Block.{gridOf, ReadyGrid}
+use Rattle.fill.specs.Adds.{gridOf, ReadyGrid}
 
 -- ---- coordinates
 near : {z : ℤ} → negsuc 8191 ≤ℤ z → z ≤ℤ pos 8191 → Within coordinateMax z

@@ -26,9 +26,10 @@ use Rattle.grid.specs.Map.{isFilled, tabulate}
 use Rattle.grid.proofs.Numbers.{number-lt, number-of, x-lt, y-lt, z-lt}
 use Rattle.fill.specs.declared.Grid.{Grid}
 use Rattle.fill.specs.Steel.{anyOf, fillsCell, filledBy}
-use Rattle.fill.specs.Block.{gridOf, inBlock, cellTest, wanted, Room, FillsFor, Adds, AddsTriangle, ReadyCells}
-use Rattle.fill.proofs.Blocks.{in-block}
-use Rattle.fill.proofs.Ways.{none}
+use Rattle.blocks.specs.Block.{inBlock, cellTest, wanted, Room, FillsFor}
+use Rattle.fill.specs.Adds.{gridOf, Adds, AddsTriangle, ReadyCells}
+use Rattle.blocks.proofs.Blocks.{in-block}
+use Rattle.blocks.proofs.Ways.{none}
 
 -- ---- one triangle
 module _ (g : Grid) (ready : ReadyCells g) (t : Triangle) {b : BoxRange} (picks : PicksBox t (gridOf g) b) where

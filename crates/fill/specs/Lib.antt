@@ -1,2 +1,2 @@
 pub mod Steel
-pub mod Block
+pub mod Adds

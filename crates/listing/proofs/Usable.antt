@@ -12,7 +12,7 @@ use borrow.Author.Tests.{leb-true}
 use lib.Dec.{leb}
 use Rattle.frame.specs.declared.Cells.{Cells}
 use Rattle.grid.specs.Map.{mapLength}
-use Rattle.fill.proofs.Blocks.{and-left, and-right}
+use Rattle.blocks.proofs.Blocks.{and-left, and-right}
 use Rattle.listing.specs.Listing.{sideFits, cellsIn, usable, Ready}
 
 pub record Side (n : ℕ) : Type 0 where

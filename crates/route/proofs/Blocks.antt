@@ -27,9 +27,9 @@ use Rattle.grid.specs.Cells.{cellNumber, xOfCell, yOfCell, zOfCell}
 use Rattle.grid.specs.Map.{isFilled}
 use Rattle.grid.proofs.Numbers.{number-lt, number-of, x-of, y-of, z-of, x-lt, y-lt, z-lt}
 use Rattle.fill.specs.Steel.{fillsCell}
-use Rattle.fill.specs.Block.{cellTest}
-use Rattle.fill.proofs.Blocks.{in-range, range-in}
-use Rattle.fill.proofs.Ways.{none, apart}
+use Rattle.blocks.specs.Block.{cellTest}
+use Rattle.blocks.proofs.Blocks.{in-range, range-in}
+use Rattle.blocks.proofs.Ways.{none, apart}
 use Rattle.route.specs.declared.Found.the-variants.{Cell, Nothing}
 use Rattle.route.specs.Route.{filledAndTouched, firstTouched, cellsOf}
 use Rattle.route.specs.Search.{rowMay}

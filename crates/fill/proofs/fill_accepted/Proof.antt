@@ -9,7 +9,7 @@ use Rattle.frame.specs.Limit.{gives}
 use Rattle.frame.proofs.Accepted.{AcceptedFile, accepted}
 use Rattle.grid.specs.Map.{mapLength, isFilled, countBelow}
 use Rattle.fill.specs.Steel.{cellCount, gridAt, steel, filledBy}
-use Rattle.fill.specs.Block.{AddsSteel}
+use Rattle.fill.specs.Adds.{AddsSteel}
 use Rattle.fill.proofs.Answers.{fill-short, fill-passed, fill-bytes, fill-count}
 use Rattle.fill.proofs.fill_accepted.Statement.{statement}
 use Rattle.fill.proofs.fill_accepted.Tie as tie

@@ -16,8 +16,9 @@ use Rattle.overlap.specs.Range as range
 use Rattle.overlap.specs.Range.{PicksBox}
 use Rattle.overlap.specs.Setup.{triangleOf, setupOf, measuredFrom, formsIn}
 use Rattle.fill.specs.Steel.{triangleAt}
-use Rattle.fill.specs.Block.{gridOf, FillsFor}
-use Rattle.fill.proofs.Ways.{fills-empty}
+use Rattle.blocks.specs.Block.{FillsFor}
+use Rattle.fill.specs.Adds.{gridOf}
+use Rattle.blocks.proofs.Ways.{fills-empty}
 use Rattle.fill.proofs.Triangles.{adds-triangle, box-room}
 use Rattle.fill.proofs.fill_triangle.Statement.{statement}
 use Rattle.fill.proofs.fill_triangle.Tie as tie

@@ -14,7 +14,7 @@ use Rattle.overlap.specs.Geometry.{Triangle}
 use Rattle.overlap.specs.Grid as overlap
 use Rattle.grid.specs.Map.{tabulate}
 use Rattle.fill.specs.Steel.{triangleAt, steel, filledBy}
-use Rattle.fill.specs.Block.{gridOf, Adds, AddsTriangle}
+use Rattle.fill.specs.Adds.{gridOf, Adds, AddsTriangle}
 use Rattle.fill.proofs.Ready.{ready-grid, triangle-bounded}
 use Rattle.fill.proofs.Triangles.{adds-none, adds-more}
 use Rattle.fill.proofs.fill_triangles.Statement.{statement}

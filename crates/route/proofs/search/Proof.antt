@@ -16,7 +16,7 @@ use Rattle.grid.specs.Cells.{cellNumber}
 use Rattle.grid.specs.Map.{isFilled}
 use Rattle.grid.proofs.Numbers.{number-lt}
 use Rattle.fill.specs.Steel.{gridAt}
-use Rattle.fill.proofs.Ways.{apart}
+use Rattle.blocks.proofs.Ways.{apart}
 use Rattle.route.specs.declared.Found.the-variants.{Cell, Nothing}
 use Rattle.route.proofs.Blocks.{No, Layers, Rows, Cells, no-row, either, found-none, found-at}
 use Rattle.route.proofs.search.Statement.{statement}

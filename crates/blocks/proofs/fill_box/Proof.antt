@@ -1,14 +1,14 @@
--- `fill::fill_box` meets its contract. Assumes nothing.
+-- `blocks::fill_box` meets its contract. Assumes nothing.
 use borrow.Author.Needs.{needs}
 use mathlib.Core.Path.{sym, _∙_, subst}
 use lib.ListN.{length}
 use Rattle.overlap.specs.declared.BoxRange.{BoxRange}
 use Rattle.overlap.specs.Lent.{setupAt, cellsX, cellsY}
-use Rattle.fill.specs.Block.{NonEmpty, Room, Fills}
-use Rattle.fill.proofs.Blocks.{ends, by-ends}
-use Rattle.fill.proofs.Ways.{fills-none}
-use Rattle.fill.proofs.fill_box.Statement.{statement}
-use Rattle.fill.proofs.fill_box.Tie as tie
+use Rattle.blocks.specs.Block.{NonEmpty, Room, Fills}
+use Rattle.blocks.proofs.Blocks.{ends, by-ends}
+use Rattle.blocks.proofs.Ways.{fills-none}
+use Rattle.blocks.proofs.fill_box.Statement.{statement}
+use Rattle.blocks.proofs.fill_box.Tie as tie
 
 abbrev start : tie.After-may-overlap → tie.Start
 start m = m .before .before .before .before .before .before .before .before

@@ -1,4 +1,4 @@
--- `fill::cut_y` meets its contract. Assumes nothing.
+-- `blocks::cut_y` meets its contract. Assumes nothing.
 use borrow.Author.Needs.{needs}
 use mathlib.Core.Path.{_∙_}
 use native.Mathlib.Omega.{arith}
@@ -7,10 +7,10 @@ use lib.IntN.{pos}
 use Rattle.overlap.specs.Grid.{cellPoint}
 use Rattle.overlap.specs.Lent.{setupAt}
 use Rattle.overlap.proofs.Cuts.{cut-y, turn-bounded}
-use Rattle.fill.specs.Block.{boxOf}
-use Rattle.fill.proofs.Blocks.{cut-range, halved-y, cut-in-two}
-use Rattle.fill.proofs.cut_y.Statement.{statement}
-use Rattle.fill.proofs.cut_y.Tie as tie
+use Rattle.blocks.specs.Block.{boxOf}
+use Rattle.blocks.proofs.Blocks.{cut-range, halved-y, cut-in-two}
+use Rattle.blocks.proofs.cut_y.Statement.{statement}
+use Rattle.blocks.proofs.cut_y.Tie as tie
 
 cut-test-requires : tie.Need-cut-test-requires
 cut-test-requires c κs =
@@ -20,13 +20,14 @@ cut-test-requires c κs =
 
 returns : tie.Need-returns
 returns c =
-    let m = c .before .before .before .before .before in
+    let t = c .before in
+    let m = t .before .before .before .before .before in
     let s = m .before in
     let b = s .args .b in
     let p = s .pre .0 in
     let n = m .middle .result in
-    cut-in-two (halved-y (boxOf b) (p .some) (cut-range (b .ly) (b .hy) n (m .middle .ensures) (s .pre .1) (p .y)))
-    (c .cut-test .ensures ∙ cut-y (setupAt (s .args .forms .now)) (cellPoint (b .lx) (b .ly) (b .lz)) (cellPoint (b .hx) (b .hy) (b .hz)) (pos n) (p .may))
+    cut-in-two (c .halves-of .ensures) (halved-y (boxOf b) (p .some) (cut-range (b .ly) (b .hy) n (m .middle .ensures) (s .pre .1) (p .y)))
+    (t .cut-test .ensures ∙ cut-y (setupAt (s .args .forms .now)) (cellPoint (b .lx) (b .ly) (b .lz)) (cellPoint (b .hx) (b .hy) (b .hz)) (pos n) (p .may))
 
 pub cut-y-spec : {M : Type 1} → statement M
 cut-y-spec =
@@ -40,4 +41,5 @@ cut-y-spec =
     (λ c. search needs)
     cut-test-requires
     (λ c. search needs)
+    (λ c κs. search needs)
     returns)

@@ -1,4 +1,4 @@
--- `fill::fill_single` meets its contract. Assumes nothing.
+-- `blocks::fill_single` meets its contract. Assumes nothing.
 use borrow.Author.Needs.{needs}
 use mathlib.Core.List.{List}
 use mathlib.Core.Path.{_≡_, sym, ap, _∙_, subst, subst₂}
@@ -11,11 +11,11 @@ use Rattle.overlap.specs.Grid.{cellPoint}
 use Rattle.overlap.specs.Lent.{setupAt, cellsX, cellsY}
 use Rattle.grid.specs.Cells.{cellNumber}
 use Rattle.grid.specs.Map.{withFilled}
-use Rattle.fill.specs.Block.{range, Fills}
-use Rattle.fill.proofs.Blocks.{one-cell}
-use Rattle.fill.proofs.Ways.{fills-cell}
-use Rattle.fill.proofs.fill_single.Statement.{statement}
-use Rattle.fill.proofs.fill_single.Tie as tie
+use Rattle.blocks.specs.Block.{range, Fills}
+use Rattle.blocks.proofs.Blocks.{one-cell}
+use Rattle.blocks.proofs.Ways.{fills-cell}
+use Rattle.blocks.proofs.fill_single.Statement.{statement}
+use Rattle.blocks.proofs.fill_single.Tie as tie
 
 abbrev start : tie.After-cell-number → tie.Start
 start c = c .before .before .before .before .before .before .before

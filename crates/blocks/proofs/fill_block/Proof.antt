@@ -1,4 +1,4 @@
--- `fill::fill_block` meets its contract. The cells that are filled, or wanted in a pending block, are always the same; the pending blocks grow lighter; and the
+-- `blocks::fill_block` meets its contract. The cells that are filled, or wanted in a pending block, are always the same; the pending blocks grow lighter; and the
 -- block at place p of the list wants at most 18 − p halvings, so that the list has room. Assumes nothing.
 use borrow.Author.Needs.{needs}
 use mathlib.Core.Bool.{Bool, true}
@@ -11,13 +11,13 @@ use lib.ListN.{length, getD, set, length-set}
 use Rattle.overlap.specs.Lent.{setupAt, cellsX, cellsY}
 use Rattle.pending.specs.Pending.{stack, Progress, Each, load, putIf}
 use Rattle.pending.proofs.Laws.{bit-most, stack-length, stack-top, stack-halves, each-halves, begun, finished, halved, done, lighter, halves-lighter, six}
-use Rattle.fill.specs.declared.Block.{Block}
-use Rattle.fill.specs.declared.Halves.{Halves}
-use Rattle.fill.specs.Block.{boxOf, widthOf, depthOf, mayFill, wanted, Enters, Part}
-use Rattle.fill.proofs.Blocks.{part-room}
-use Rattle.fill.proofs.Ways.{none-wanted, both-wanted}
-use Rattle.fill.proofs.fill_block.Statement.{statement}
-use Rattle.fill.proofs.fill_block.Tie as tie
+use Rattle.blocks.specs.declared.Block.{Block}
+use Rattle.blocks.specs.declared.Halves.{Halves}
+use Rattle.blocks.specs.Block.{boxOf, widthOf, depthOf, mayFill, wanted, Enters, Part}
+use Rattle.blocks.proofs.Blocks.{part-room}
+use Rattle.blocks.proofs.Ways.{none-wanted, both-wanted}
+use Rattle.blocks.proofs.fill_block.Statement.{statement}
+use Rattle.blocks.proofs.fill_block.Tie as tie
 
 abbrev empty : Block
 empty = record { lx = 0; hx = 0; ly = 0; hy = 0; lz = 0; hz = 0 }

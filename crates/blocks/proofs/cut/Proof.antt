@@ -1,10 +1,10 @@
--- `fill::cut` meets its contract: the longest side of a block of several cells has two cells. Assumes nothing.
+-- `blocks::cut` meets its contract: the longest side of a block of several cells has two cells. Assumes nothing.
 use borrow.Author.Needs.{needs}
 use native.Mathlib.Omega.{arith}
 use Prim.Native.Nat.{_+_, _<_}
-use Rattle.fill.proofs.Blocks.{several}
-use Rattle.fill.proofs.cut.Statement.{statement}
-use Rattle.fill.proofs.cut.Tie as tie
+use Rattle.blocks.proofs.Blocks.{several}
+use Rattle.blocks.proofs.cut.Statement.{statement}
+use Rattle.blocks.proofs.cut.Tie as tie
 
 more : (s : tie.Start) → let b = s .args .b in b .lx + b .ly + b .lz < b .hx + b .hy + b .hz
 more s = several (s .args .b) (s .pre .0 .some) (s .pre .1)

@@ -2,8 +2,8 @@
 use mathlib.Core.Bool.{Bool, true, false, _&&_, _||_}
 use mathlib.Core.List.{List}
 use mathlib.Core.Path.{_≡_}
-use Prim.Native.Nat.{ℕ, _+_, _-_, _*_, _<_, _≤_}
-use lib.Dec.{eqb, ltb}
+use Prim.Native.Nat.{ℕ, _+_, _-_, _*_, _/_, _%_, _<_, _≤_}
+use lib.Dec.{eqb}
 use lib.IntN.{ℤ, pos}
 use lib.ListN.{length, getD}
 use lib.Signed.{_≤ℤ_}
@@ -11,8 +11,7 @@ use Rattle.overlap.specs.declared.BoxRange.{BoxRange}
 use Rattle.overlap.specs.declared.CellRange.{CellRange}
 use Rattle.overlap.specs.declared.Setup.{Setup}
 use Rattle.overlap.specs.Block.{blockTest}
-use Rattle.overlap.specs.Bounds.{BoundedGrid, BoundedSetup}
-use Rattle.overlap.specs.Geometry.{point, Triangle}
+use Rattle.overlap.specs.Bounds.{BoundedSetup}
 use Rattle.overlap.specs.Grid as overlap
 use Rattle.overlap.specs.Grid.{cellPoint}
 use Rattle.overlap.specs.Lent.{setupAt, cellsX, cellsY}
@@ -20,15 +19,8 @@ use Rattle.overlap.specs.Range.{inRange}
 use Rattle.grid.specs.Cells.{cellNumber, xOfCell, yOfCell, zOfCell}
 use Rattle.grid.specs.Map.{isFilled, bit}
 use Rattle.pending.specs.Pending.{halvings}
-use Rattle.frame.specs.declared.Header.{Header}
-use Rattle.fill.specs.declared.Block.{Block}
-use Rattle.fill.specs.declared.Grid.{Grid}
-use Rattle.fill.specs.declared.Halves.{Halves}
-use Rattle.fill.specs.Steel.{gridAt, cellCount, fillsCell, filledBy}
-
--- The code's grid as a grid.
-abbrev pub gridOf : Grid → overlap.Grid
-gridOf g = record { origin = point (g .x) (g .y) (g .z); edge = g .edge; nx = g .nx; ny = g .ny; nz = g .nz }
+use Rattle.blocks.specs.declared.Block.{Block}
+use Rattle.blocks.specs.declared.Halves.{Halves}
 
 -- ---- blocks: a range of cells on each axis
 -- Cell (i, j, k) lies in the block.
@@ -113,6 +105,10 @@ pub record CutInTwo (f : Setup) (b : Block) (r : Halves) : Type 0 where
   pub lower : r .lower ≡ bit (mayFill f (r .low))
   pub upper : r .upper ≡ bit (mayFill f (r .high))
 
+-- Two halves, with the answer of the test of a cut taken apart.
+abbrev pub halvesOf : (low high : Block) (passing : ℕ) → Halves
+halvesOf low high n = record { low = low; high = high; lower = n % 2; upper = n / 2 }
+
 -- ---- filling a block
 -- No form of the set-up rules out cell (i, j, k).
 abbrev pub cellTest : Setup → (i j k : ℕ) → Bool
@@ -134,27 +130,3 @@ pub record FillsFor (nx ny : ℕ) (f : Setup) (b : BoxRange) (old new : List ℕ
 -- The same of the forms in a list.
 abbrev pub Fills : (forms : List ℤ) (b : BoxRange) (old new : List ℕ) → Type 0
 Fills forms = FillsFor (cellsX forms) (cellsY forms) (setupAt forms)
-
--- `new` is `old` with the cells of a grid that have the property filled, and every other cell as it was.
-pub record Adds (cells : ℕ) (p : ℕ → Bool) (old new : List ℕ) : Type 0 where
-  pub len : length new ≡ length old
-  pub each : (n : ℕ) → isFilled new n ≡ (isFilled old n || (ltb n cells && p n))
-
-abbrev pub AddsTriangle : Grid → Triangle → (old new : List ℕ) → Type 0
-AddsTriangle g t = Adds (g .nx * g .ny * g .nz) (λ n. fillsCell (gridOf g) n t)
-
-abbrev pub AddsSteel : Header → List Triangle → (old new : List ℕ) → Type 0
-AddsSteel h ts = Adds (cellCount h) (filledBy (gridAt h) ts)
-
--- ---- a grid that the fill can take: at most 64 cells a side, its numbers within the bounds of the overlap test; and room in the map
-pub record ReadyCells (g : Grid) : Type 0 where
-  pub nx : g .nx ≤ 64
-  pub ny : g .ny ≤ 64
-  pub nz : g .nz ≤ 64
-  pub some-x : 0 < g .nx
-  pub some-y : 0 < g .ny
-  pub grid : BoundedGrid (gridOf g)
-
-pub record ReadyGrid (g : Grid) (bytes : ℕ) : Type 0 where
-  pub cells : ReadyCells g
-  pub room : g .nx * g .ny * g .nz ≤ 8 * bytes

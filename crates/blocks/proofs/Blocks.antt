@@ -10,7 +10,7 @@
 -- Assumes nothing.
 use mathlib.Core.Bool.{Bool, true, false, _&&_, _||_, and-or-distrib-left, and-or-distrib-right}
 use mathlib.Core.List.{List}
-use mathlib.Core.Path.{_≡_, refl, ap, _∙_}
+use mathlib.Core.Path.{_≡_, refl, sym, ap, _∙_, subst}
 use Prim.Native.Nat.{ℕ, _+_, _-_, _/_, _%_, _<_, _≤_}
 use native.Mathlib.Decide.{decLt}
 use native.Mathlib.Omega.{arith}
@@ -25,8 +25,9 @@ use Rattle.overlap.specs.Range.{inRange}
 use Rattle.grid.specs.Map.{bit}
 use Rattle.pending.specs.Pending.{halvings}
 use Rattle.pending.proofs.Laws.{fewer}
-use Rattle.fill.specs.declared.Block.{Block}
-use Rattle.fill.specs.Block.{inBlock, range, boxOf, widthOf, isCell, NonEmpty, Room, mayFill, Part, Halved, CutInTwo}
+use Rattle.blocks.specs.declared.Block.{Block}
+use Rattle.blocks.specs.declared.Halves.{Halves}
+use Rattle.blocks.specs.Block.{inBlock, range, boxOf, widthOf, isCell, NonEmpty, Room, mayFill, Part, Halved, CutInTwo, halvesOf}
 
 -- ---- tests
 pub and-left : (p q : Bool) → (p && q) ≡ true → p ≡ true
@@ -167,13 +168,14 @@ pub several : (b : Block) → NonEmpty (boxOf b) → isCell b ≡ false → b .l
 several b some e = let ne = eqb-false (b .lx + b .ly + b .lz) (b .hx + b .hy + b .hz) e in omega (arith, some)
 
 -- The halves of a cut, with the answer of its test.
-pub cut-in-two : {f : Setup} {b low high : Block} {n : ℕ} → Halved (boxOf b) (boxOf low) (boxOf high) → n ≡ passing (mayFill f low) (mayFill f high)
-    → CutInTwo f b (record { low = low; high = high; lower = n % 2; upper = n / 2 })
-cut-in-two {f} {b} {low} {high} {n} h e = record {
-  halved = h;
-  lower = ap (λ (m : ℕ). m % 2) e ∙ odd (mayFill f low) (mayFill f high);
-  upper = ap (λ (m : ℕ). m / 2) e ∙ half (mayFill f low) (mayFill f high);
-}
+pub cut-in-two : {f : Setup} {b low high : Block} {n : ℕ} {r : Halves} → r ≡ halvesOf low high n → Halved (boxOf b) (boxOf low) (boxOf high)
+    → n ≡ passing (mayFill f low) (mayFill f high) → CutInTwo f b r
+cut-in-two {f} {b} {low} {high} {n} is h e =
+    subst (CutInTwo f b) (sym is) (record {
+      halved = h;
+      lower = ap (λ (m : ℕ). m % 2) e ∙ odd (mayFill f low) (mayFill f high);
+      upper = ap (λ (m : ℕ). m / 2) e ∙ half (mayFill f low) (mayFill f high);
+    })
   where
     odd : (l u : Bool) → passing l u % 2 ≡ bit l
     odd true true = refl

@@ -23,9 +23,9 @@ use Rattle.grid.specs.Cells.{cellNumber, xOfCell, yOfCell, zOfCell}
 use Rattle.grid.specs.Map.{isFilled, withFilled}
 use Rattle.grid.proofs.Filled.{filled-with, length-with}
 use Rattle.grid.proofs.Numbers.{x-of, y-of, z-of, number-of}
-use Rattle.fill.specs.declared.Block.{Block}
-use Rattle.fill.specs.Block.{inBlock, range, boxOf, Halved, cellTest, mayFill, wanted, FillsFor}
-use Rattle.fill.proofs.Blocks.{in-block, range-in}
+use Rattle.blocks.specs.declared.Block.{Block}
+use Rattle.blocks.specs.Block.{inBlock, range, boxOf, Halved, cellTest, mayFill, wanted, FillsFor}
+use Rattle.blocks.proofs.Blocks.{in-block, range-in}
 
 -- ---- tests
 pub none : (p q : Bool) → (p ≡ true → q ≡ true → ⊥) → (p && q) ≡ false
