@@ -1,5 +1,5 @@
 -- Blocks of cells, and what filling one does. Definitions only: the contracts of the fill's own functions cite them.
-use mathlib.Core.Bool.{Bool, true, false, _&&_, _||_}
+use mathlib.Core.Bool.{Bool, true, _&&_, _||_}
 use mathlib.Core.List.{List}
 use mathlib.Core.Path.{_≡_}
 use Prim.Native.Nat.{ℕ, _+_, _-_, _*_, _/_, _%_, _<_, _≤_}
@@ -50,11 +50,6 @@ pub record NonEmpty (b : BoxRange) : Type 0 where
   pub x : b .x .first < b .x .end
   pub y : b .y .first < b .y .end
   pub z : b .z .first < b .z .end
-
--- The answer of a test for a block with no cell.
-pub record Emptiness (b : BoxRange) (r : Bool) : Type 0 where
-  pub some : r ≡ false → NonEmpty b
-  pub none : r ≡ true → (i j k : ℕ) → inBlock b i j k ≡ false
 
 -- The block lies in the grid that the forms are for, and its cells' numbers in a map of so many bytes.
 pub record Room (forms : List ℤ) (bytes : ℕ) (b : BoxRange) : Type 0 where

@@ -7,7 +7,7 @@ ghost use Prim.Native.Nat.{_+_, _/_, _<_};
 ghost use lib.ListN.{length};
 ghost use Rattle.overlap.specs.Bounds.{BoundedSetup};
 ghost use Rattle.overlap.specs.Lent.{setupAt};
-ghost use Rattle.blocks.specs.Block.{boxOf, isCell, Emptiness, NonEmpty, Room, Enters, CutReady, CutInTwo, halvesOf, Fills};
+ghost use Rattle.blocks.specs.Block.{boxOf, isCell, NonEmpty, Room, Enters, CutReady, CutInTwo, halvesOf, Fills};
 
 // A block of cells: its first and its last cell on each axis. Cells have numbers below 64, so that a block takes six bytes.
 struct Block {
@@ -25,22 +25,6 @@ struct Halves {
     high: Block,
     lower: usize,
     upper: usize,
-}
-
-// Has the block no cell?
-pub fn is_empty(b: BoxRange) -> bool
-    ensures { λ r. ⌜ Emptiness b r ⌝ }
-{
-    let x = b.x;
-    let y = b.y;
-    let z = b.z;
-    if x.end <= x.first {
-        return true;
-    }
-    if y.end <= y.first {
-        return true;
-    }
-    z.end <= z.first
 }
 
 // Fills each cell of a box of cells that no form rules out.

@@ -1,14 +1,16 @@
 -- What a triangle, and a file's steel, add to a map; and the grids that the fill can take. Definitions only: the contracts of the fill's own functions cite them.
-use mathlib.Core.Bool.{Bool, _&&_, _||_}
+use mathlib.Core.Bool.{Bool, true, false, _&&_, _||_}
 use mathlib.Core.List.{List}
 use mathlib.Core.Path.{_≡_}
 use Prim.Native.Nat.{ℕ, _*_, _<_, _≤_}
 use lib.Dec.{ltb}
 use lib.ListN.{length}
+use Rattle.overlap.specs.declared.BoxRange.{BoxRange}
 use Rattle.overlap.specs.Bounds.{BoundedGrid}
 use Rattle.overlap.specs.Geometry.{point, Triangle}
 use Rattle.overlap.specs.Grid as overlap
 use Rattle.grid.specs.Map.{isFilled}
+use Rattle.blocks.specs.Block.{inBlock, NonEmpty}
 use Rattle.frame.specs.declared.Header.{Header}
 use Rattle.fill.specs.declared.Grid.{Grid}
 use Rattle.fill.specs.Steel.{gridAt, cellCount, fillsCell, filledBy}
@@ -16,6 +18,11 @@ use Rattle.fill.specs.Steel.{gridAt, cellCount, fillsCell, filledBy}
 -- The code's grid as a grid.
 abbrev pub gridOf : Grid → overlap.Grid
 gridOf g = record { origin = point (g .x) (g .y) (g .z); edge = g .edge; nx = g .nx; ny = g .ny; nz = g .nz }
+
+-- The answer of a test for a block with no cell.
+pub record Emptiness (b : BoxRange) (r : Bool) : Type 0 where
+  pub some : r ≡ false → NonEmpty b
+  pub none : r ≡ true → (i j k : ℕ) → inBlock b i j k ≡ false
 
 -- `new` is `old` with the cells of a grid that have the property filled, and every other cell as it was.
 pub record Adds (cells : ℕ) (p : ℕ → Bool) (old new : List ℕ) : Type 0 where

@@ -5,6 +5,7 @@ use frame::Header;
 use frame::Limit;
 use frame::Position;
 use frame::Triangle;
+use overlap::BoxRange;
 use overlap::Vector;
 ghost use mathlib.Core.Path.{_≡_};
 ghost use Prim.Native.Nat.{_*_, _≤_};
@@ -15,7 +16,7 @@ ghost use Rattle.overlap.specs.Bounds.{BoundedTriangle};
 ghost use Rattle.overlap.specs.Setup.{pointOf};
 ghost use Rattle.grid.specs.Map.{mapLength};
 ghost use Rattle.fill.specs.Steel.{pointAt, triangleAt, gridAt, cellCount, steel, filling, filledBytes, saidFilling};
-ghost use Rattle.fill.specs.Adds.{gridOf, AddsTriangle, AddsSteel, ReadyGrid};
+ghost use Rattle.fill.specs.Adds.{gridOf, Emptiness, AddsTriangle, AddsSteel, ReadyGrid};
 
 // What a fill answers: the number of filled cells, or the first limit broken.
 pub enum Filling {
@@ -119,7 +120,7 @@ fn fill_triangle(map: &mut [u8], grid: Grid, triangle: Triangle)
         z: grid.z,
     };
     let block = overlap::box_range(v0, v1, v2, origin, grid.edge, grid.nx, grid.ny, grid.nz);
-    if blocks::is_empty(block) {
+    if is_empty(block) {
         return;
     }
     let forms = overlap::triangle_forms(v0, v1, v2, origin, grid.edge, grid.nx, grid.ny);
@@ -135,4 +136,20 @@ fn vector(p: Position) -> Vector
         y: p.y,
         z: p.z,
     }
+}
+
+// Has the block no cell?
+fn is_empty(b: BoxRange) -> bool
+    ensures { λ r. ⌜ Emptiness b r ⌝ }
+{
+    let x = b.x;
+    let y = b.y;
+    let z = b.z;
+    if x.end <= x.first {
+        return true;
+    }
+    if y.end <= y.first {
+        return true;
+    }
+    z.end <= z.first
 }

@@ -1,6 +1,8 @@
 -- `blocks::fill_box` meets its contract. Assumes nothing.
 use borrow.Author.Needs.{needs}
 use mathlib.Core.Path.{sym, _∙_, subst}
+use Prim.Native.Nat.{_≤_}
+use native.Mathlib.Omega.{arith}
 use lib.ListN.{length}
 use Rattle.overlap.specs.declared.BoxRange.{BoxRange}
 use Rattle.overlap.specs.Lent.{setupAt, cellsX, cellsY}
@@ -12,6 +14,17 @@ use Rattle.blocks.proofs.fill_box.Tie as tie
 
 abbrev start : tie.After-may-overlap → tie.Start
 start m = m .before .before .before .before .before .before .before .before
+
+-- the ends of the box
+small : (s : tie.Start) → let b = s .args .b in (b .x .end ≤ 64) × (b .y .end ≤ 64) × (b .z .end ≤ 64)
+small s = let r = s .pre .0 in (omega (arith, r .x, r .nx-most), omega (arith, r .y, r .ny-most), r .z)
+
+may-overlap-requires : tie.Need-may-overlap-requires
+may-overlap-requires c κs =
+    let s = c .before .before .before .before .before .before .before in
+    let (x, y, z) = small s in
+    let e = s .pre .1 in
+    (s .pre .2, (omega (arith, e .x), (omega (arith, e .x), (omega (arith, e .y), (omega (arith, e .y), (omega (arith, e .z), (omega (arith, e .z), tt)))))))
 
 fill-block-requires : tie.Need-fill-block-requires
 fill-block-requires c κs =
@@ -46,16 +59,16 @@ pub fill-box-spec : {M : Type 1} → statement M
 fill-box-spec =
     tie.close
     (tie.spec
-    (λ c. search needs)
-    (λ c. search needs)
-    (λ c. search needs)
-    (λ c κs. search needs)
-    (λ c. search needs)
-    (λ c. search needs)
-    (λ c. search needs)
-    (λ c. search needs)
-    (λ c. search needs)
-    (λ c. search needs)
+    (λ c. omega (arith, c .before .before .before .before .before .pre .1 .x))
+    (λ c. omega (arith, c .before .before .before .before .before .before .pre .1 .y))
+    (λ c. omega (arith, c .before .before .before .before .before .before .before .pre .1 .z))
+    may-overlap-requires
+    (λ c. let s = start (c .before .before) in omega (arith, small s, s .pre .1 .x))
+    (λ c. omega (arith, small (start (c .before .before)) .0))
+    (λ c. let s = start (c .before .before .before) in omega (arith, small s, s .pre .1 .y))
+    (λ c. omega (arith, small (start (c .before .before .before)) .1))
+    (λ c. let s = start (c .before .before .before .before) in omega (arith, small s, s .pre .1 .z))
+    (λ c. omega (arith, small (start (c .before .before .before .before)) .2))
     fill-block-requires
     (λ c. search needs)
     returns

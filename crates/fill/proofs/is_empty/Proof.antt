@@ -1,14 +1,15 @@
--- `blocks::is_empty` meets its contract. Assumes nothing.
+-- `fill::is_empty` meets its contract. Assumes nothing.
 use borrow.Author.Tests.{leb-true, leb-false}
 use mathlib.Core.Bool.{true, false}
 use mathlib.Core.Path.{_≡_}
 use Prim.Native.Nat.{ℕ}
 use native.Mathlib.Omega.{arith}
 use Rattle.overlap.specs.declared.BoxRange.{BoxRange}
-use Rattle.blocks.specs.Block.{inBlock, Emptiness}
+use Rattle.blocks.specs.Block.{inBlock}
 use Rattle.blocks.proofs.Blocks.{empty-x, empty-y, empty-z}
-use Rattle.blocks.proofs.is_empty.Statement.{statement}
-use Rattle.blocks.proofs.is_empty.Tie as tie
+use Rattle.fill.specs.Adds.{Emptiness}
+use Rattle.fill.proofs.is_empty.Statement.{statement}
+use Rattle.fill.proofs.is_empty.Tie as tie
 
 empty : {b : BoxRange} → ((i j k : ℕ) → inBlock b i j k ≡ false) → Emptiness b true
 empty h = record { some = λ e. let z : _≡_ {A = ℕ} 0 1 = cc in absurd (omega arith); none = λ e. h }
