@@ -141,12 +141,12 @@ pub fn halving(file: &[u8], map: &mut [u8]) -> Result<u32, Refusal> {
     fill_by(file, map, |map, t| {
         if let Some(block) = cells_of_box(t, &map.grid) {
             let forms = Setup::in_cells(t, &map.grid);
-            let [x, y, z] = block.map(|cells| Side {
+            let whole = block.map(|cells| Side {
                 low: cells.start as i64,
                 high: cells.end as i64 - 1,
             });
-            if forms.may_overlap([x.low, y.low, z.low], [x.high, y.high, z.high]) {
-                fill_block(map, &forms, x, y, z);
+            if forms.may_overlap(whole.map(|side| side.low), whole.map(|side| side.high)) {
+                fill_block(map, &forms, whole);
             }
         }
     })
@@ -187,33 +187,43 @@ impl Side {
     }
 }
 
-/// Fills the cells of a block that no form rules out, where none rules out the block. It is cut
-/// across its longest side.
-fn fill_block(map: &mut Map, forms: &Setup, x: Side, y: Side, z: Side) {
-    let [i, j, k] = [x, y, z].map(|side| side.high - side.low);
-    if i + j + k == 0 {
-        return map.set([x.low as usize, y.low as usize, z.low as usize]);
-    }
-    let (lower, upper, halves);
-    if i >= j && i >= k {
-        let [x0, x1] = x.halves();
-        (lower, upper) = halves_may_overlap::<0>(forms, x0.high, y, z);
-        halves = [[x0, y, z], [x1, y, z]];
-    } else if j >= k {
-        let [y0, y1] = y.halves();
-        (lower, upper) = halves_may_overlap::<1>(forms, y0.high, z, x);
-        halves = [[x, y0, z], [x, y1, z]];
-    } else {
-        let [z0, z1] = z.halves();
-        (lower, upper) = halves_may_overlap::<2>(forms, z0.high, x, y);
-        halves = [[x, y, z0], [x, y, z1]];
-    }
-    let [[x0, y0, z0], [x1, y1, z1]] = halves;
-    if lower {
-        fill_block(map, forms, x0, y0, z0);
-    }
-    if upper {
-        fill_block(map, forms, x1, y1, z1);
+/// Fills the cells of a block that no form rules out, where none rules out the block. The last of
+/// the pending blocks is taken and cut across its longest side, and its halves that no form rules
+/// out take its place. At most 18 cuts lead to a single cell.
+fn fill_block(map: &mut Map, forms: &Setup, whole: [Side; 3]) {
+    let mut blocks = [[Side { low: 0, high: 0 }; 3]; 19];
+    blocks[0] = whole;
+    let mut pending = 1;
+    while pending > 0 {
+        pending -= 1;
+        let [x, y, z] = blocks[pending];
+        let [i, j, k] = [x, y, z].map(|side| side.high - side.low);
+        if i + j + k == 0 {
+            map.set([x.low as usize, y.low as usize, z.low as usize]);
+            continue;
+        }
+        let (lower, upper, low, high);
+        if i >= j && i >= k {
+            let [x0, x1] = x.halves();
+            (lower, upper) = halves_may_overlap::<0>(forms, x0.high, y, z);
+            (low, high) = ([x0, y, z], [x1, y, z]);
+        } else if j >= k {
+            let [y0, y1] = y.halves();
+            (lower, upper) = halves_may_overlap::<1>(forms, y0.high, z, x);
+            (low, high) = ([x, y0, z], [x, y1, z]);
+        } else {
+            let [z0, z1] = z.halves();
+            (lower, upper) = halves_may_overlap::<2>(forms, z0.high, x, y);
+            (low, high) = ([x, y, z0], [x, y, z1]);
+        }
+        if upper {
+            blocks[pending] = high;
+            pending += 1;
+        }
+        if lower {
+            blocks[pending] = low;
+            pending += 1;
+        }
     }
 }
 
