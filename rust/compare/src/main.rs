@@ -22,6 +22,11 @@ fn main() -> ExitCode {
         None => {
             (0..FRAMES).for_each(|seed| frame(&mut tally, seed));
             println!("frames: {FRAMES} compared");
+            let plates = scene::plates();
+            for plate in &plates {
+                tally.fill(&mut Random::new(0), &plate.write(), plate.map_bytes());
+            }
+            println!("plates: {} compared", plates.len());
             let damaged = damage::each(&mut tally);
             println!("damaged: {damaged} files compared");
         }

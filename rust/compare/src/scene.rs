@@ -77,6 +77,26 @@ pub fn frame(random: &mut Random, most: i64) -> Frame {
     with_steel(random, cells, edge, origin, triangles)
 }
 
+/// Plates along diagonals of the largest grid. A fill that halves the grid across its longest side, the lower half first,
+/// has as many blocks pending on each of them as it can have: 19.
+pub fn plates() -> Vec<Frame> {
+    let far = 64 * 10;
+    let corners = [
+        [[0, 0, 0], [far, far, 0], [0, 0, far]],
+        [[0, 0, 0], [0, far, far], [far, 0, 0]],
+        [[0, 0, 0], [far, 0, far], [0, far, 0]],
+        [[0, 0, 0], [far, far, far], [far, 0, 0]],
+    ];
+    let plate = |corners| Frame {
+        version: 1,
+        cells: [64; 3],
+        edge: 10,
+        origin: [0; 3],
+        triangles: vec![(0, corners)],
+    };
+    corners.map(plate).into()
+}
+
 /// The largest grid.
 pub fn largest(random: &mut Random) -> Frame {
     let edge = random.between(1, 130);
