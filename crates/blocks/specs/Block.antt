@@ -1,4 +1,4 @@
--- Blocks of cells, and what filling one does. Definitions only: the contracts of the fill's own functions cite them.
+-- Blocks of cells, and what filling one does. Definitions only: the contracts of this crate's functions cite them.
 use mathlib.Core.Bool.{Bool, true, _&&_, _||_}
 use mathlib.Core.List.{List}
 use mathlib.Core.Path.{_≡_}
@@ -12,7 +12,6 @@ use Rattle.overlap.specs.declared.CellRange.{CellRange}
 use Rattle.overlap.specs.declared.Setup.{Setup}
 use Rattle.overlap.specs.Block.{blockTest}
 use Rattle.overlap.specs.Bounds.{BoundedSetup}
-use Rattle.overlap.specs.Grid as overlap
 use Rattle.overlap.specs.Grid.{cellPoint}
 use Rattle.overlap.specs.Lent.{setupAt, cellsX, cellsY}
 use Rattle.overlap.specs.Range.{inRange}
@@ -35,6 +34,7 @@ range l h = record { first = l; end = h + 1 }
 abbrev pub boxOf : Block → BoxRange
 boxOf b = record { x = range (b .lx) (b .hx); y = range (b .ly) (b .hy); z = range (b .lz) (b .hz) }
 
+-- How many cells a range has.
 abbrev pub widthOf : CellRange → ℕ
 widthOf r = r .end - r .first
 
@@ -46,6 +46,7 @@ depthOf b = halvings (widthOf (b .x)) + halvings (widthOf (b .y)) + halvings (wi
 abbrev pub isCell : Block → Bool
 isCell b = eqb (b .lx + b .ly + b .lz) (b .hx + b .hy + b .hz)
 
+-- The block has a cell.
 pub record NonEmpty (b : BoxRange) : Type 0 where
   pub x : b .x .first < b .x .end
   pub y : b .y .first < b .y .end
@@ -66,7 +67,7 @@ pub record Room (forms : List ℤ) (bytes : ℕ) (b : BoxRange) : Type 0 where
 abbrev pub mayFill : Setup → Block → Bool
 mayFill f b = blockTest f (cellPoint (b .lx) (b .ly) (b .lz)) (cellPoint (b .hx) (b .hy) (b .hz))
 
--- A block that is filled cell by cell: it has cells, the map has room for them, and no form rules it out.
+-- A block that the fill enters: it has cells, the map has room for them, and no form rules it out.
 pub record Enters (forms : List ℤ) (bytes : ℕ) (b : Block) : Type 0 where
   pub room : Room forms bytes (boxOf b)
   pub some : NonEmpty (boxOf b)
@@ -81,6 +82,7 @@ pub record Part (b p : BoxRange) : Type 0 where
   pub y : p .y .end ≤ b .y .end
   pub z : p .z .end ≤ b .z .end
 
+-- The halves have the block's cells.
 pub record Halved (b low high : BoxRange) : Type 0 where
   pub low-part : Part b low
   pub high-part : Part b high

@@ -51,9 +51,8 @@ pub fn fill_box(map: &mut [u8], forms: &[i64; 34], b: BoxRange)
     }
 }
 
-// Fills each cell of a block that no form rules out, where none rules out the block. The last of the pending blocks is
-// taken; its halves that may have a filled cell take its place, down to single cells. Each halving halves one of three
-// sides of at most 64 cells, so that at most 19 blocks are pending.
+// Fills each cell of a block that no form rules out, where none rules out the block: the last pending block is taken, and
+// its halves that may have a filled cell take its place. 18 halvings lead to a single cell, so at most 19 are pending.
 fn fill_block(map: &mut [u8], forms: &[i64; 34], whole: Block)
     requires { ⌜ Enters (now forms) (length (now map)) whole × BoundedSetup (setupAt (now forms)) ⌝ }
     ensures { λ _. ⌜ Fills (now (forms .entry)) (boxOf whole) (now (map .entry)) (now (map .exit)) ⌝ }
