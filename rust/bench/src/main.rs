@@ -119,7 +119,7 @@ fn test_route(test: routes::Test, shape: &str, answer: &str, times: usize) {
     }
 }
 
-/// The times of the verified fill and of the same recursion in Rust.
+/// The times of the verified fill and of the same loop in Rust.
 fn time_fill(scene: &str, cells: usize) -> Vec<f64> {
     let file = scenes::file(scene, cells);
     time::medians(&mut ["rattle", "halving"].map(|peer| {
