@@ -34,8 +34,8 @@ Waits forms bytes place b = Enters forms bytes b × (depth b + place ≤ 18)
 
 abbrev Inv-loop : tie.InvT-loop
 Inv-loop map₀ forms blocks₀ pending₀ map blocks pending =
-    let todo = stack empty blocks pending in
-    (length blocks ≡ length blocks₀) × Each (Waits forms (length map₀)) todo × Progress (wants forms) (getD blocks₀ 0 empty) map₀ todo map
+    let left = stack empty blocks pending in
+    (length blocks ≡ length blocks₀) × Each (Waits forms (length map₀)) left × Progress (wants forms) (getD blocks₀ 0 empty) map₀ left map
 
 abbrev μ-loop : tie.MeasureT-loop
 μ-loop map₀ forms blocks₀ pending₀ map blocks pending = load depth (stack empty blocks pending)
