@@ -1,6 +1,9 @@
 -- Counting by whole bytes.
 --     count-more     the count of one number more
 --     count-byte     of the cells of one byte more
+--     ones-byte      byte q as a number
+--     ones-next      byte q + j
+--     ones-join      bytes, and bytes behind them, as one number
 --     count-most     no count is above the numbers counted
 --     count-same     two properties that agree have one count
 -- Assumes nothing.
@@ -11,11 +14,11 @@ use Prim.Native.Nat.{ℕ, zero, suc, _+_, _-_, _*_, _/_, _%_, _^_, _<_, _≤_}
 use native.Mathlib.Nat.{mod-lt, add-zero, div-one, div-eq-of-lt}
 use native.Mathlib.Numerals.{add-one}
 use native.Mathlib.Omega.{arith}
-use lib.Count.{ones, onesIn, ones-step}
+use lib.Count.{ones, onesIn, ones-step, ones-cat}
 use lib.Dec.{eqb}
 use lib.ListN.{getD}
 use lib.Pow.{shr-shr}
-use Rattle.grid.specs.Map.{isFilled, bit, countBelow}
+use Rattle.grid.specs.Map.{isFilled, bit, countBelow, OnesOf}
 
 pub count-none : (p : ℕ → Bool) → countBelow p 0 ≡ 0
 unfolding countBelow
@@ -40,7 +43,7 @@ count-same p q zero h = refl
 count-same p q (suc n) h = rw (count-same p q n (λ m l. h m (omega arith)), h n (omega arith))
 
 -- ---- the bits of a byte
-ones-zero : ones 0 ≡ 0
+pub ones-zero : ones 0 ≡ 0
 unfolding ones onesIn
 ones-zero = refl
 
@@ -73,3 +76,15 @@ module _ (s : List ℕ) (q : ℕ) (small : getD s q 0 < 256) where
   count-byte =
       let e : (q + 1) * 8 ≡ q * 8 + 8 = omega arith in
       ap (countBelow (isFilled s)) e ∙ part 8 (omega arith) ∙ ap (λ (x : ℕ). countBelow (isFilled s) (q * 8) + ones x) (div-one (getD s q 0))
+
+-- ---- several bytes as one number
+pub ones-byte : (s : List ℕ) (q : ℕ) {x : ℕ} → (x ≡ getD s q 0) × (x < 256) → OnesOf s q (q + 1) x
+ones-byte s q h = record { counted = rw (h .0) (count-byte s q (rw (h .0) at (h .1))) }
+
+pub ones-next : (s : List ℕ) (q j : ℕ) {x : ℕ} → (x ≡ getD s (q + j) 0) × (x < 256) → OnesOf s (q + j) (q + suc j) x
+ones-next s q j h =
+    let e : q + suc j ≡ q + j + 1 = omega arith in
+    rw e (ones-byte s (q + j) h)
+
+pub ones-join : (k : ℕ) {s : List ℕ} {from mid to a b : ℕ} → a < 2 ^ k → OnesOf s from mid a → OnesOf s mid to b → OnesOf s from to (b * 2 ^ k + a)
+ones-join k {a = a} {b = b} small first second = record { counted = omega (arith, ones-cat k b a small) }

@@ -4,6 +4,7 @@ use mathlib.Core.List.{List, [], _∷_, _++_}
 use mathlib.Core.Path.{_≡_}
 use Prim.Native.Nat.{ℕ, zero, suc, _+_, _-_, _*_, _/_, _%_, _^_, _<_, _≤_}
 use lib.Bits.{bitOr}
+use lib.Count.{ones}
 use lib.Dec.{eqb, ltb}
 use lib.ListN.{getD, set}
 
@@ -35,6 +36,10 @@ bit false = 0
 unfoldable pub countBelow : (ℕ → Bool) → ℕ → ℕ
 countBelow p zero = 0
 countBelow p (suc n) = countBelow p n + bit (p n)
+
+-- x has as many ones as the bytes from `from` on and below `to` have filled cells.
+pub record OnesOf (s : List ℕ) (from to x : ℕ) : Type 0 where
+  pub counted : countBelow (isFilled s) (to * 8) ≡ countBelow (isFilled s) (from * 8) + ones x
 
 -- The byte whose bits, the highest first, say of the cells 8 × q to 8 × q + 7 whether they have the property; its first w bits.
 unfoldable pub firstBits : (ℕ → Bool) → ℕ → ℕ → ℕ

@@ -2,9 +2,9 @@
 ghost use mathlib.Core.Path.{_≡_};
 ghost use mathlib.Core.List.{_++_};
 ghost use Prim.Native.Nat.{_+_, _*_, _/_, _<_, _≤_, _^_, min};
-ghost use lib.ListN.{length, drop, replicate};
+ghost use lib.ListN.{length, drop, getD, replicate};
 ghost use Rattle.grid.specs.Cells.{cellNumber};
-ghost use Rattle.grid.specs.Map.{mapLength, isFilled, NextFilled, withFilled, countBelow};
+ghost use Rattle.grid.specs.Map.{mapLength, isFilled, NextFilled, withFilled, countBelow, OnesOf};
 
 // The number of cell (i, j, k) in a grid with nx × ny cells in a layer.
 pub fn cell_number(nx: usize, ny: usize, i: usize, j: usize, k: usize) -> usize
@@ -102,16 +102,43 @@ pub fn count(map: &[u8], cells: usize) -> usize
     sum
 }
 
-// How many cells of the first `len` bytes are filled.
+// How many cells of the first `len` bytes are filled: eight bytes at a time, then the bytes behind them.
 fn count_bytes(map: &[u8], len: usize) -> usize
     requires { ⌜ (len ≤ length (now map)) × (len * 8 < 2 ^ 64) ⌝ }
     ensures { λ r. ⌜ (r ≡ countBelow (isFilled (now (map .entry))) (len * 8)) × (r ≤ len * 8) ⌝ }
 {
     let mut sum: usize = 0;
     let mut i = 0;
+    while i + 8 <= len {
+        let w = word(map, i);
+        if w != 0 {
+            sum += u64::count_ones(w) as usize;
+        }
+        i += 8;
+    }
     while i < len {
         sum += u8::count_ones(map[i]) as usize;
         i += 1;
     }
     sum
+}
+
+// The eight bytes from byte i on, as one number, the first lowest: it has a one for each filled cell of theirs.
+fn word(map: &[u8], i: usize) -> u64
+    requires { ⌜ i + 8 ≤ length (now map) ⌝ }
+    ensures { λ r. ⌜ OnesOf (now (map .entry)) i (i + 8) r ⌝ }
+{
+    let a = byte(map, i + 1) * 256 + byte(map, i);
+    let b = byte(map, i + 3) * 256 + byte(map, i + 2);
+    let c = byte(map, i + 5) * 256 + byte(map, i + 4);
+    let d = byte(map, i + 7) * 256 + byte(map, i + 6);
+    ((d * 65536 + c) * 65536 + b) * 65536 + a
+}
+
+// Byte i, as a number to compute with.
+fn byte(map: &[u8], i: usize) -> u64
+    requires { ⌜ i < length (now map) ⌝ }
+    ensures { λ r. ⌜ (r ≡ getD (now (map .entry)) i 0) × (r < 256) ⌝ }
+{
+    map[i] as u64
 }

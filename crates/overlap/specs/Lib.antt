@@ -1,9 +1,0 @@
-pub mod Geometry
-pub mod Rule
-pub mod Grid
-pub mod Setup
-pub mod Block
-pub mod Lent
-pub mod Cut
-pub mod Range
-pub mod Bounds
