@@ -2,6 +2,7 @@
 --     field-lt       a field of w bits is below 2 ^ w
 --     field-split    a field in two parts
 --     field-part     a field inside another, by a shift and a remainder
+--     field-of-word  a field out of the four bytes that have it
 --     byte-field     a byte is a field of 8 bits
 --     field-drop     a field behind whole bytes that are left out
 --     one-shl        1 shifted left inside a word is a power of 2
@@ -77,6 +78,12 @@ module _ (s : List ℕ) (bytes : (i : ℕ) → getD s i 0 < 256) where
       let next : i * 8 + 16 ≡ (i + 2) * 8 = omega arith in
       let last : i + 2 + 1 ≡ i + 3 = omega arith in
       rw (field-split s (i * 8) 16 16, next, half-word i, half-word (i + 2), last)
+
+-- The w bits at bit p, out of the word of four bytes that has them.
+pub field-of-word : (s : List ℕ) (p w : ℕ) → w ≤ 25 → fieldAt s (p / 8 * 8) 32 / 2 ^ (32 - p % 8 - w) % 2 ^ w ≡ fieldAt s p w
+field-of-word s p w h =
+    let here : p / 8 * 8 + p % 8 ≡ p = omega arith in
+    field-part s (p / 8 * 8) 32 (p % 8) w (omega arith) ∙ ap (λ (q : ℕ). fieldAt s q w) here
 
 -- ---- a shift of 1 in a word of b bits
 pub one-shl : (b w : ℕ) → w < b → 1 * 2 ^ w % 2 ^ b ≡ 2 ^ w

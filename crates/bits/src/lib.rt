@@ -2,7 +2,7 @@
 //
 // A field may run over the end of the slice: the bits there are 0.
 ghost use mathlib.Core.Path.{_≡_};
-ghost use Prim.Native.Nat.{_+_, _*_, _<_, _≤_, _^_};
+ghost use Prim.Native.Nat.{_+_, _-_, _*_, _/_, _%_, _<_, _≤_, _^_};
 ghost use lib.ListN.{getD, length};
 ghost use Rattle.bits.specs.Field.{fieldAt, twosComplement, Taken, TakenSigned};
 
@@ -38,7 +38,7 @@ impl Cursor {
     {
         let at = self.at;
         let word = word_at(s, at / 8);
-        let value = (word >> (32 - at % 8 - width)) % (1u32 << width);
+        let value = part_of(word, at % 8, width);
         self.at = at + width;
         Field { value, next: self }
     }
@@ -55,6 +55,29 @@ impl Cursor {
             next: self,
         }
     }
+
+    // The same, where the four bytes from the cursor's on are there, so that no length is looked at.
+    pub fn take_inside(mut self, s: &[u8], width: usize) -> SignedField
+        requires { ⌜ (1 ≤ width) × (width ≤ 25) × (self .at + width < 2 ^ 64) × (self .at / 8 + 3 < length (now s)) ⌝ }
+        ensures { λ r. ⌜ TakenSigned (now (s .entry)) self width r ⌝ }
+    {
+        let at = self.at;
+        let word = whole_word(s, at / 8);
+        let value = part_of(word, at % 8, width);
+        self.at = at + width;
+        SignedField {
+            value: sign_extend(value, width),
+            next: self,
+        }
+    }
+}
+
+// The `width` bits of a word behind its first `skip` bits.
+fn part_of(word: u32, skip: usize, width: usize) -> u32
+    requires { ⌜ (1 ≤ width) × (width ≤ 25) × (skip < 8) ⌝ }
+    ensures { λ r. ⌜ r ≡ word / 2 ^ (32 - skip - width) % 2 ^ width ⌝ }
+{
+    (word >> (32 - skip - width)) % (1u32 << width)
 }
 
 // The four bytes from byte i on, as one number. Near the end of the slice they are taken one by one.

@@ -1,7 +1,7 @@
 // The frame file: a grid's header and its triangles, bit-packed. Reading it, and the limits that it may break.
 use bits::Cursor;
 ghost use mathlib.Core.Path.{_≡_};
-ghost use Prim.Native.Nat.{_+_, _*_, _<_, _≤_, _^_};
+ghost use Prim.Native.Nat.{_+_, _*_, _/_, _<_, _≤_, _^_};
 ghost use lib.ListN.{length};
 ghost use Rattle.integers.specs.Within.{Within};
 ghost use Rattle.frame.specs.Limit.{refusalOf};
@@ -194,6 +194,25 @@ fn take_position(cursor: Cursor, s: &[u8], width: usize) -> PositionField
     PositionField { value, next }
 }
 
+// The same, where the bytes that have the fields are all there.
+fn position_inside(cursor: Cursor, s: &[u8], width: usize) -> PositionField
+    requires { ⌜ (1 ≤ width) × (width ≤ 25) × (cursor .at + 3 * width < 2 ^ 64) × ((cursor .at + 2 * width) / 8 + 3 < length (now s)) ⌝ }
+    ensures { λ r. ⌜ TakenPosition (now (s .entry)) cursor width r ⌝ }
+{
+    let x = cursor.take_inside(s, width);
+    let after_x = x.next;
+    let y = after_x.take_inside(s, width);
+    let after_y = y.next;
+    let z = after_y.take_inside(s, width);
+    let next = z.next;
+    let value = Position {
+        x: x.value,
+        y: y.value,
+        z: z.value,
+    };
+    PositionField { value, next }
+}
+
 // Reads the header, each field where the one before it ends.
 fn read_header(layout: Layout, file: &[u8]) -> HeaderFields
     requires { ⌜ Usable layout ⌝ }
@@ -262,6 +281,30 @@ pub fn read_triangle(layout: Layout, part: &[u8]) -> Triangle
     let second = take_position(after_first, part, layout.coordinate);
     let after_second = second.next;
     let third = take_position(after_second, part, layout.coordinate);
+    let v0 = first.value;
+    let v1 = second.value;
+    let v2 = third.value;
+    Triangle {
+        kind: kind.value,
+        v0,
+        v1,
+        v2,
+    }
+}
+
+// The same, of a record that has 32 bytes: no field's four bytes go beyond them, so that no length is looked at. A fill reads all records but the
+// last of a file so.
+pub fn read_inside(layout: Layout, part: &[u8]) -> Triangle
+    requires { ⌜ Usable layout × (32 ≤ length (now part)) ⌝ }
+    ensures { λ r. ⌜ r ≡ triangleOf layout (now (part .entry)) ⌝ }
+{
+    let kind = Cursor::new().take(part, 2);
+    let after_kind = kind.next;
+    let first = position_inside(after_kind, part, layout.coordinate);
+    let after_first = first.next;
+    let second = position_inside(after_first, part, layout.coordinate);
+    let after_second = second.next;
+    let third = position_inside(after_second, part, layout.coordinate);
     let v0 = first.value;
     let v1 = second.value;
     let v2 = third.value;
