@@ -1,10 +1,8 @@
-//! Links the static libraries that `rt staticlib stall` and `rt staticlib bench_overlap` write.
+//! Links the static library that `rt staticlib stall` writes.
 
 fn main() {
     let folder = concat!(env!("CARGO_MANIFEST_DIR"), "/../../target/staticlib");
     println!("cargo:rustc-link-search=native={folder}");
-    for library in ["stall", "bench_overlap"] {
-        println!("cargo:rustc-link-lib=static={library}");
-        println!("cargo:rerun-if-changed={folder}/lib{library}.a");
-    }
+    println!("cargo:rustc-link-lib=static=stall");
+    println!("cargo:rerun-if-changed={folder}/libstall.a");
 }

@@ -1,4 +1,4 @@
--- Blocks of cells, and the halves of one.
-pub mod Blocks
--- The wanted cells of a block, by the way in which it is filled.
-pub mod Ways
+-- A block and its halves.
+pub mod Cuts
+-- A block that an edge rules out.
+pub mod Far

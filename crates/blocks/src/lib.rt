@@ -1,215 +1,184 @@
-// Blocks of cells filled into a map: a triangle's box of cells is halved down to single cells, by a loop over a list of
-// pending blocks.
-use overlap::BoxRange;
+// Blocks of columns: a triangle's box of cells is halved across two sides, by a loop over a list of pending blocks, down to blocks whose columns are
+// looked at one by one.
+use columns::Strides;
+use ranges::BoxRange;
+use ranges::CellRange;
 ghost use mathlib.Core.Path.{_≡_};
-ghost use mathlib.Core.Bool.{true, false};
-ghost use Prim.Native.Nat.{_+_, _/_, _<_};
+ghost use mathlib.Core.Bool.{false};
+ghost use Prim.Native.Nat.{_+_, _/_, _<_, _≤_};
+ghost use lib.IntN.{pos};
 ghost use lib.ListN.{length};
-ghost use Rattle.overlap.specs.Bounds.{BoundedSetup};
-ghost use Rattle.overlap.specs.Lent.{setupAt};
-ghost use Rattle.blocks.specs.Block.{boxOf, isCell, NonEmpty, Room, Enters, CutReady, CutInTwo, halvesOf, Fills};
+ghost use lib.Signed.{ltZ};
+ghost use Rattle.integers.specs.Within.{Within};
+ghost use Rattle.overlap.specs.Bounds.{indexMax};
+ghost use Rattle.grid.specs.Map.{bit};
+ghost use Rattle.forms.specs.Form.{edgeAt, BoundedForm, BoundedForms};
+ghost use Rattle.columns.specs.Draw.{Draws, rectangle};
+ghost use Rattle.columns.specs.Column.{cellPasses, ColumnsReady};
+ghost use Rattle.blocks.specs.Block.{uOf, vOf, columnsOf, isSmall, BlockIn, BoxReady, Halved, farEnd, farValue, keptBy};
 
-// A block of cells: its first and its last cell on each axis. Cells have numbers below 64, so that a block takes six bytes.
+// A block of columns: those from u0 on and below u1 on one axis, and from v0 on and below v1 on the other. The numbers are at most 64, so
+// that a block takes four bytes.
 struct Block {
-    lx: u8,
-    hx: u8,
-    ly: u8,
-    hy: u8,
-    lz: u8,
-    hz: u8,
+    u0: u8,
+    u1: u8,
+    v0: u8,
+    v1: u8,
 }
 
-// A block cut in two; and for each half 1 where it may have a filled cell, else 0.
+// A block cut in two.
 struct Halves {
     low: Block,
     high: Block,
-    lower: usize,
-    upper: usize,
 }
 
-// Fills each cell of a box of cells that no form rules out.
-pub fn fill_box(map: &mut [u8], forms: &[i64; 34], b: BoxRange)
-    requires { ⌜ Room (now forms) (length (now map)) b × NonEmpty b × BoundedSetup (setupAt (now forms)) ⌝ }
-    ensures { λ _. ⌜ Fills (now (forms .entry)) b (now (map .entry)) (now (map .exit)) ⌝ }
+// Fills the columns of a box of cells, its axes turned so that the columns run along z.
+pub fn fill_columns(map: &mut [u8], forms: &[i64; 35], g: Strides, b: BoxRange)
+    requires { ⌜ BoxReady (now forms) g (length (now map)) b ⌝ }
+    ensures { λ _. ⌜ Draws g (rectangle (b .x) (b .y)) (cellPasses (now (forms .entry)) (b .z)) (now (map .entry)) (now (map .exit)) ⌝ }
 {
     let x = b.x;
     let y = b.y;
     let z = b.z;
-    let hx = x.end - 1;
-    let hy = y.end - 1;
-    let hz = z.end - 1;
-    if overlap::may_overlap(forms, x.first, hx, y.first, hy, z.first, hz) {
-        let whole = Block {
-            lx: x.first as u8,
-            hx: hx as u8,
-            ly: y.first as u8,
-            hy: hy as u8,
-            lz: z.first as u8,
-            hz: hz as u8,
-        };
-        fill_block(map, forms, whole);
+    let whole = Block {
+        u0: x.first as u8,
+        u1: x.end as u8,
+        v0: y.first as u8,
+        v1: y.end as u8,
+    };
+    if is_small(whole) {
+        columns::scan(map, forms, g, z, x, y, z.first);
+        return;
     }
+    halve(map, forms, g, z, whole);
 }
 
-// Fills each cell of a block that no form rules out, where none rules out the block: the last pending block is taken, and
-// its halves that may have a filled cell take its place. 18 halvings lead to a single cell, so at most 19 are pending.
-fn fill_block(map: &mut [u8], forms: &[i64; 34], whole: Block)
-    requires { ⌜ Enters (now forms) (length (now map)) whole × BoundedSetup (setupAt (now forms)) ⌝ }
-    ensures { λ _. ⌜ Fills (now (forms .entry)) (boxOf whole) (now (map .entry)) (now (map .exit)) ⌝ }
+// Fills the columns of a block: the last pending block is taken, and its columns are filled, or its halves that no edge rules out take its place. Twelve
+// halvings lead to a single column, so that at most 13 blocks are pending.
+fn halve(map: &mut [u8], forms: &[i64; 35], g: Strides, w: CellRange, whole: Block)
+    requires { ⌜ ColumnsReady (now forms) g (length (now map)) w (w .first) × BlockIn (g .nu) (g .nv) whole ⌝ }
+    ensures { λ _. ⌜ Draws g (columnsOf whole) (cellPasses (now (forms .entry)) w) (now (map .entry)) (now (map .exit)) ⌝ }
 {
     let none = Block {
-        lx: 0,
-        hx: 0,
-        ly: 0,
-        hy: 0,
-        lz: 0,
-        hz: 0,
+        u0: 0,
+        u1: 0,
+        v0: 0,
+        v1: 0,
     };
-    let mut blocks = [none; 19];
+    let mut blocks = [none; 13];
     blocks[0] = whole;
     let mut pending: usize = 1;
+    let mut near = w.first;
     while 0 < pending {
         pending -= 1;
         let b = blocks[pending];
-        if is_cell(b) {
-            fill_single(map, forms, b);
+        if is_small(b) {
+            near = columns::scan(map, forms, g, w, u_range(b), v_range(b), near);
         } else {
-            let half = cut(forms, b);
+            let half = cut(b);
             let low = half.low;
             let high = half.high;
             blocks[pending] = high;
-            pending += half.upper;
+            pending += kept(forms, high);
             blocks[pending] = low;
-            pending += half.lower;
+            pending += kept(forms, low);
         }
     }
 }
 
-// Has the block one cell?
-fn is_cell(b: Block) -> bool
-    ensures { λ r. ⌜ r ≡ isCell b ⌝ }
+// The block's columns on u.
+fn u_range(b: Block) -> CellRange
+    ensures { λ r. ⌜ r ≡ uOf b ⌝ }
 {
-    b.lx as usize + b.ly as usize + b.lz as usize == b.hx as usize + b.hy as usize + b.hz as usize
-}
-
-// Fills the cell of a block of one cell.
-fn fill_single(map: &mut [u8], forms: &[i64; 34], b: Block)
-    requires { ⌜ Enters (now forms) (length (now map)) b × (isCell b ≡ true) ⌝ }
-    ensures { λ _. ⌜ Fills (now (forms .entry)) (boxOf b) (now (map .entry)) (now (map .exit)) ⌝ }
-{
-    let nx = overlap::cells_x(forms);
-    let ny = overlap::cells_y(forms);
-    let n = grid::cell_number(nx, ny, b.lx as usize, b.ly as usize, b.lz as usize);
-    grid::fill_cell(map, n);
-}
-
-// The block cut in two across its longest side.
-fn cut(forms: &[i64; 34], b: Block) -> Halves
-    requires { ⌜ CutReady (setupAt (now forms)) b × (isCell b ≡ false) ⌝ }
-    ensures { λ r. ⌜ CutInTwo (setupAt (now (forms .entry))) b r ⌝ }
-{
-    let along_x = b.hx - b.lx;
-    let along_y = b.hy - b.ly;
-    let along_z = b.hz - b.lz;
-    if along_y <= along_x {
-        if along_z <= along_x {
-            return cut_x(forms, b);
-        }
-        return cut_z(forms, b);
+    CellRange {
+        first: b.u0 as usize,
+        end: b.u1 as usize,
     }
-    if along_z <= along_y {
-        return cut_y(forms, b);
+}
+
+// The block's columns on v.
+fn v_range(b: Block) -> CellRange
+    ensures { λ r. ⌜ r ≡ vOf b ⌝ }
+{
+    CellRange {
+        first: b.v0 as usize,
+        end: b.v1 as usize,
     }
-    cut_z(forms, b)
 }
 
-// The last cell of the lower half of a range.
-fn middle(l: u8, h: u8) -> u8
-    ensures { λ r. ⌜ r ≡ (l + h) / 2 ⌝ }
+// Has the block at most 64 columns?
+fn is_small(b: Block) -> bool
+    requires { ⌜ BlockIn 64 64 b ⌝ }
+    ensures { λ r. ⌜ r ≡ isSmall b ⌝ }
 {
-    ((l as usize + h as usize) / 2) as u8
+    let nu = b.u1 as usize - b.u0 as usize;
+    let nv = b.v1 as usize - b.v0 as usize;
+    nu * nv <= 64
 }
 
-// The block cut across x.
-fn cut_x(forms: &[i64; 34], b: Block) -> Halves
-    requires { ⌜ CutReady (setupAt (now forms)) b × (b .lx < b .hx) ⌝ }
-    ensures { λ r. ⌜ CutInTwo (setupAt (now (forms .entry))) b r ⌝ }
+// The block cut in two across its longer side.
+fn cut(b: Block) -> Halves
+    requires { ⌜ BlockIn 64 64 b × (isSmall b ≡ false) ⌝ }
+    ensures { λ r. ⌜ Halved b (r .low) (r .high) ⌝ }
 {
-    let m = middle(b.lx, b.hx);
-    let passing = overlap::cut_test(
-        forms,
-        0,
-        10,
-        20,
-        m as usize,
-        b.ly as usize,
-        b.hy as usize,
-        b.lz as usize,
-        b.hz as usize,
-    );
+    let nu = b.u1 - b.u0;
+    let nv = b.v1 - b.v0;
     let mut low = b;
-    low.hx = m;
     let mut high = b;
-    high.lx = m + 1;
-    halves_of(low, high, passing)
-}
-
-// The block cut across y.
-fn cut_y(forms: &[i64; 34], b: Block) -> Halves
-    requires { ⌜ CutReady (setupAt (now forms)) b × (b .ly < b .hy) ⌝ }
-    ensures { λ r. ⌜ CutInTwo (setupAt (now (forms .entry))) b r ⌝ }
-{
-    let m = middle(b.ly, b.hy);
-    let passing = overlap::cut_test(
-        forms,
-        10,
-        20,
-        0,
-        m as usize,
-        b.lz as usize,
-        b.hz as usize,
-        b.lx as usize,
-        b.hx as usize,
-    );
-    let mut low = b;
-    low.hy = m;
-    let mut high = b;
-    high.ly = m + 1;
-    halves_of(low, high, passing)
-}
-
-// The block cut across z.
-fn cut_z(forms: &[i64; 34], b: Block) -> Halves
-    requires { ⌜ CutReady (setupAt (now forms)) b × (b .lz < b .hz) ⌝ }
-    ensures { λ r. ⌜ CutInTwo (setupAt (now (forms .entry))) b r ⌝ }
-{
-    let m = middle(b.lz, b.hz);
-    let passing = overlap::cut_test(
-        forms,
-        20,
-        0,
-        10,
-        m as usize,
-        b.lx as usize,
-        b.hx as usize,
-        b.ly as usize,
-        b.hy as usize,
-    );
-    let mut low = b;
-    low.hz = m;
-    let mut high = b;
-    high.lz = m + 1;
-    halves_of(low, high, passing)
-}
-
-// Two halves, with the answer of the test of the cut taken apart.
-fn halves_of(low: Block, high: Block, passing: usize) -> Halves
-    ensures { λ r. ⌜ r ≡ halvesOf low high passing ⌝ }
-{
-    Halves {
-        low,
-        high,
-        lower: passing % 2,
-        upper: passing / 2,
+    if nv <= nu {
+        let m = middle(b.u0, b.u1);
+        low.u1 = m;
+        high.u0 = m;
+    } else {
+        let m = middle(b.v0, b.v1);
+        low.v1 = m;
+        high.v0 = m;
     }
+    Halves { low, high }
+}
+
+// The first cell of the upper half of a range.
+fn middle(first: u8, end: u8) -> u8
+    ensures { λ r. ⌜ r ≡ (first + end + 1) / 2 ⌝ }
+{
+    ((first as usize + end as usize + 1) / 2) as u8
+}
+
+// 1 where no edge rules out the block, else 0.
+fn kept(forms: &[i64; 35], b: Block) -> usize
+    requires { ⌜ BoundedForms (now forms) × BlockIn 64 64 b ⌝ }
+    ensures { λ r. ⌜ r ≡ bit (keptBy (now (forms .entry)) b) ⌝ }
+{
+    if rules_out(forms, 0, b) {
+        return 0;
+    }
+    if rules_out(forms, 1, b) {
+        return 0;
+    }
+    if rules_out(forms, 2, b) {
+        return 0;
+    }
+    1
+}
+
+// Does edge m rule out every column of the block? It is asked at the corner where its form is greatest.
+fn rules_out(forms: &[i64; 35], m: usize, b: Block) -> bool
+    requires { ⌜ (m < 3) × BoundedForm (edgeAt (now forms) m .uv) × BlockIn 64 64 b ⌝ }
+    ensures { λ r. ⌜ r ≡ ltZ (farValue (now (forms .entry)) m b) (pos 0) ⌝ }
+{
+    let f = forms::uv(forms, m);
+    let u = far_end(f.a, b.u0, b.u1);
+    let v = far_end(f.b, b.v0, b.v1);
+    f.a * u + f.b * v + f.c < 0
+}
+
+// The end of a range at which a × i is greatest.
+fn far_end(a: i64, first: u8, end: u8) -> i64
+    requires { ⌜ (first < end) × (end ≤ 64) ⌝ }
+    ensures { λ r. ⌜ (r ≡ farEnd a first end) × Within indexMax r ⌝ }
+{
+    if a < 0 {
+        return first as i64;
+    }
+    end as i64 - 1
 }

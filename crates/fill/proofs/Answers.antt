@@ -23,7 +23,7 @@ use Rattle.grid.specs.Map.{mapLength, isFilled, countBelow, mapOf}
 use Rattle.grid.proofs.Counts.{count-same}
 use Rattle.grid.proofs.Maps.{Bytes, map-is, length-cleared, cleared-in, cleared-behind}
 use Rattle.fill.specs.Steel.{gridAt, cellCount, steel, filledBy, mapQuestion, fillQuestions, filling, filledBytes}
-use Rattle.fill.specs.Adds.{Adds}
+use Rattle.triangles.specs.Add.{Adds}
 
 -- ---- questions 1 to 8, of a call that gives x
 module _ {A : Type 0} (x : A) (s : List ℕ) (len : ℕ) where

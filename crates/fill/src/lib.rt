@@ -2,37 +2,29 @@
 use frame::Cells;
 use frame::Checked;
 use frame::Header;
+use frame::Layout;
 use frame::Limit;
 use frame::Position;
 use frame::Triangle;
-use overlap::BoxRange;
 use overlap::Vector;
+use triangles::Lattice;
 ghost use mathlib.Core.Path.{_≡_};
 ghost use Prim.Native.Nat.{_*_, _≤_};
 ghost use lib.ListN.{length};
 ghost use Rattle.frame.specs.Questions.{checked};
+ghost use Rattle.frame.specs.Fields.{Usable, triangleOf};
 ghost use Rattle.frame.specs.Limit.{gives};
 ghost use Rattle.overlap.specs.Bounds.{BoundedTriangle};
-ghost use Rattle.overlap.specs.Setup.{pointOf};
+ghost use Rattle.overlap.specs.Vectors.{pointOf};
 ghost use Rattle.grid.specs.Map.{mapLength};
-ghost use Rattle.fill.specs.Steel.{pointAt, triangleAt, gridAt, cellCount, steel, filling, filledBytes, saidFilling};
-ghost use Rattle.fill.specs.Adds.{gridOf, Emptiness, AddsTriangle, AddsSteel, ReadyGrid};
+ghost use Rattle.triangles.specs.Add.{AddsTriangle, Ready};
+ghost use Rattle.fill.specs.Steel.{pointAt, triangleAt, cellCount, steel, filling, filledBytes, saidFilling};
+ghost use Rattle.fill.specs.Adds.{latticeFor, AddsSteel};
 
 // What a fill answers: the number of filled cells, or the first limit broken.
 pub enum Filling {
     Filled(usize),
     Refused(Limit),
-}
-
-// A grid: cells along each axis, their edge, and the lowest corner of the first.
-struct Grid {
-    nx: usize,
-    ny: usize,
-    nz: usize,
-    edge: i64,
-    x: i64,
-    y: i64,
-    z: i64,
 }
 
 // Puts questions 1 to 8, then replaces the map by the map of the file, and counts its filled cells.
@@ -77,36 +69,48 @@ fn fill_triangles(file: &[u8], header: Header, map: &mut [u8])
 {
     let layout = frame::version_1();
     let count = header.count;
-    let grid = grid_of(header);
+    let lattice = lattice_of(header);
     let mut i = 0;
     while i < count {
-        let triangle = frame::read_triangle(layout, frame::from_record(layout, file, i));
-        fill_triangle(map, grid, triangle);
+        let triangle = read_record(layout, frame::from_record(layout, file, i));
+        fill_triangle(map, lattice, triangle);
         i += 1;
     }
 }
 
-// The numbers of the header's grid.
-fn grid_of(header: Header) -> Grid
-    ensures { λ r. ⌜ gridOf r ≡ gridAt header ⌝ }
+// The record at the start of `part`. Every record but the last of a file has 32 bytes there, and is read with no further look at the length.
+fn read_record(layout: Layout, part: &[u8]) -> Triangle
+    requires { ⌜ Usable layout ⌝ }
+    ensures { λ r. ⌜ r ≡ triangleOf layout (now (part .entry)) ⌝ }
+{
+    if 32 <= part.len() {
+        return frame::read_inside(layout, part);
+    }
+    frame::read_triangle(layout, part)
+}
+
+// The boxes of the header's grid: its cells.
+fn lattice_of(header: Header) -> Lattice
+    ensures { λ r. ⌜ r ≡ latticeFor header ⌝ }
 {
     let cells = header.cells;
     let origin = header.origin;
-    Grid {
+    Lattice {
         nx: cells.x,
         ny: cells.y,
         nz: cells.z,
-        edge: header.edge,
         x: origin.x,
         y: origin.y,
         z: origin.z,
+        step: header.edge,
+        extent: header.edge,
     }
 }
 
-// Fills the cells of one triangle: those of its box of cells that no form of its set-up rules out.
-fn fill_triangle(map: &mut [u8], grid: Grid, triangle: Triangle)
-    requires { ⌜ ReadyGrid grid (length (now map)) × BoundedTriangle (triangleAt triangle) ⌝ }
-    ensures { λ _. ⌜ AddsTriangle grid (triangleAt triangle) (now (map .entry)) (now (map .exit)) ⌝ }
+// Fills the cells of one triangle of the file.
+fn fill_triangle(map: &mut [u8], lattice: Lattice, triangle: Triangle)
+    requires { ⌜ Ready lattice (length (now map)) × BoundedTriangle (triangleAt triangle) ⌝ }
+    ensures { λ _. ⌜ AddsTriangle lattice (triangleAt triangle) (now (map .entry)) (now (map .exit)) ⌝ }
 {
     let p0 = triangle.v0;
     let p1 = triangle.v1;
@@ -114,17 +118,7 @@ fn fill_triangle(map: &mut [u8], grid: Grid, triangle: Triangle)
     let v0 = vector(p0);
     let v1 = vector(p1);
     let v2 = vector(p2);
-    let origin = Vector {
-        x: grid.x,
-        y: grid.y,
-        z: grid.z,
-    };
-    let block = overlap::box_range(v0, v1, v2, origin, grid.edge, grid.nx, grid.ny, grid.nz);
-    if is_empty(block) {
-        return;
-    }
-    let forms = overlap::triangle_forms(v0, v1, v2, origin, grid.edge, grid.nx, grid.ny);
-    blocks::fill_box(map, &forms, block);
+    triangles::fill_triangle(map, lattice, v0, v1, v2);
 }
 
 // A position of the file, for the overlap test.
@@ -136,20 +130,4 @@ fn vector(p: Position) -> Vector
         y: p.y,
         z: p.z,
     }
-}
-
-// Has the block no cell?
-fn is_empty(b: BoxRange) -> bool
-    ensures { λ r. ⌜ Emptiness b r ⌝ }
-{
-    let x = b.x;
-    let y = b.y;
-    let z = b.z;
-    if x.end <= x.first {
-        return true;
-    }
-    if y.end <= y.first {
-        return true;
-    }
-    z.end <= z.first
 }

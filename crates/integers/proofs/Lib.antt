@@ -18,3 +18,5 @@ pub mod Casts
 pub mod Quotients
 -- The lesser and the greater of two numbers.
 pub mod MinMax
+-- The greater and the lesser of 0 and a multiple.
+pub mod Scales

@@ -1,9 +1,10 @@
 // Leaf functions for signed code: each does one thing that a caller would otherwise prove again.
 ghost use mathlib.Core.Path.{_≡_};
 ghost use Prim.Native.Nat.{_^_, _<_};
-ghost use lib.IntN.{pos};
+ghost use lib.IntN.{pos, natAbs};
 ghost use lib.ListN.{length, getD};
 ghost use lib.Signed.{_≤ℤ_, _<ℤ_};
+ghost use Rattle.integers.specs.Within.{Within};
 ghost use Rattle.integers.specs.Order.{minℤ, maxℤ, Floor};
 
 // The lesser of two numbers. A call keeps the branch out of the caller's proof.
@@ -52,4 +53,12 @@ pub fn read_i16(s: &[i16], i: usize) -> i64
     ensures { λ r. ⌜ r ≡ getD (now (s .entry)) i (pos 0) ⌝ }
 {
     s[i] as i64
+}
+
+// The magnitude of a number.
+pub fn magnitude(x: i64) -> i64
+    requires { ⌜ Within (2 ^ 62) x ⌝ }
+    ensures { λ r. ⌜ r ≡ pos (natAbs x) ⌝ }
+{
+    if x < 0 { -x } else { x }
 }

@@ -3,8 +3,8 @@
 --     ready            so the code of a piece can take it
 --     most-cells       its cells in all
 -- Assumes nothing.
-use mathlib.Core.Bool.{true, _&&_}
-use mathlib.Core.Path.{_≡_}
+use mathlib.Core.Bool.{Bool, true, false, _&&_}
+use mathlib.Core.Path.{_≡_, refl}
 use Prim.Native.Nat.{ℕ, _*_, _≤_}
 use native.Mathlib.Nat.{mul-le-mul, mul-le-mul-left}
 use native.Mathlib.Omega.{arith}
@@ -12,8 +12,15 @@ use borrow.Author.Tests.{leb-true}
 use lib.Dec.{leb}
 use Rattle.frame.specs.declared.Cells.{Cells}
 use Rattle.grid.specs.Map.{mapLength}
-use Rattle.blocks.proofs.Blocks.{and-left, and-right}
 use Rattle.listing.specs.Listing.{sideFits, cellsIn, usable, Ready}
+
+and-left : (p q : Bool) → (p && q) ≡ true → p ≡ true
+and-left true q e = refl
+and-left false q e = e
+
+and-right : (p q : Bool) → (p && q) ≡ true → q ≡ true
+and-right true q e = e
+and-right false q e = cc
 
 pub record Side (n : ℕ) : Type 0 where
   pub some : 1 ≤ n

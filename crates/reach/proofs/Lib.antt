@@ -14,6 +14,8 @@ pub mod Tests
 pub mod RuleToReach
 pub mod ReachToRule
 pub mod Theorem
+-- A row of cells that a triangle stays within.
+pub mod Row
 -- Legs, cells of a grid.
 pub mod Legs
 pub mod Grid

@@ -99,7 +99,7 @@ corner-inside t c q a b e ε qx qy qz off nf ng nh =
 -- ---- six sides
 module _ {t : Triangle} {p d : Point} where
   -- weights that satisfy them are those of a triangle that reaches the box
-  to-reach : (u v w : ℤ) → Weights (point u v w)
+  pub to-reach : (u v w : ℤ) → Weights (point u v w)
       → Spans (p .x) (d .x) (on t xOf) (point u v w) → Spans (p .y) (d .y) (on t yOf) (point u v w) → Spans (p .z) (d .z) (on t zOf) (point u v w)
       → ReachesBox t p d
   to-reach (pos u) (pos v) (pos w) h x y z = record {

@@ -34,8 +34,7 @@ use Rattle.fill.proofs.Words.{rule-filled}
 use Rattle.route.specs.Route.{Finding, free, blocked, pointsOf, pointAt, legAt, legCount, cellsOf, filledAndTouched, firstTouched, onLeg, tested, routeAnswer}
 use Rattle.route.specs.Demand.{SomeOf, cornerOf, IsBlocked, BothReach, Demand3, LeftByFill, DemandOf}
 use Rattle.route.proofs.Answers.{last-passed, answer-given}
-use Rattle.blocks.proofs.Ways.{apart}
-use Rattle.route.proofs.First.{none-below, below-none, found-has, legs-free, free-legs, blocked-leg}
+use Rattle.route.proofs.First.{apart, none-below, below-none, found-has, legs-free, free-legs, blocked-leg}
 use Rattle.route.proofs.Ready.{ready, points-length, inside-grid}
 
 -- ---- tests as statements

@@ -1,11 +1,12 @@
 -- Laws of searches: the lowest number with a property, and the first leg for which a cell is found.
+--     none, apart               tests that do not hold together
 --     none-below, first-at      what is found, by what holds below
 --     below-none, found-has     and back
 --     legs-more, legs-blocked   one leg more, as a loop tests it
 --     legs-free, free-legs      all legs, and back
 --     blocked-leg               the leg and the cell that an answer names
 -- Assumes nothing.
-use mathlib.Core.Bool.{Bool, true, false}
+use mathlib.Core.Bool.{Bool, true, false, _&&_}
 use mathlib.Core.Path.{_≡_, refl, _∙_}
 use Prim.Native.Nat.{ℕ, zero, suc, _+_, _<_}
 use native.Mathlib.Decide.{ℕ-discrete}
@@ -14,6 +15,15 @@ use native.Mathlib.Omega.{arith}
 use Rattle.route.specs.declared.Found.{Found}
 use Rattle.route.specs.declared.Found.the-variants.{Cell, Nothing}
 use Rattle.route.specs.Route.{here, orElse, firstBelow, Finding, free, blocked, byLeg, orLater, firstBlocked}
+
+-- ---- tests
+pub none : (p q : Bool) → (p ≡ true → q ≡ true → ⊥) → (p && q) ≡ false
+none true true f = absurd (f refl refl)
+none true false f = refl
+none false q f = refl
+
+pub apart : {p : Bool} → p ≡ true → p ≡ false → ⊥
+apart t f = let z : _≡_ {A = ℕ} 0 1 = cc in omega arith
 
 -- ---- the lowest number
 module _ (p : ℕ → Bool) where

@@ -1,7 +1,7 @@
 -- The first number with a property, and the first leg with a cell.
 mod First
 -- The search of a block by layers, rows and cells.
-mod Blocks
+mod Scan
 -- Headers and points that the overlap test can take.
 mod Ready
 -- The answer, from the answers to the questions.

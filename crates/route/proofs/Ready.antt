@@ -1,6 +1,6 @@
 -- Headers and points that stay within the bounds of the overlap test.
---     ready                 an accepted file's header
---     grid-bounded                   its grid
+--     ready                          an accepted file's header
+--     grid-bounded, grid-few         its grid
 --     points-length, point-is        the list of a route's points
 --     inside-grid, point-bounded     a point that passes question 10
 -- Assumes nothing.
@@ -19,9 +19,10 @@ use Rattle.integers.proofs.Laws.{≤-trans, ≤1→<}
 use Rattle.integers.proofs.Omega.{le-true}
 use Rattle.frame.specs.declared.Header.{Header}
 use Rattle.frame.proofs.Accepted.{AxisRange, AcceptedFile}
-use Rattle.overlap.specs.Bounds.{coordinateMax, BoundedPoint, BoundedGrid}
+use Rattle.overlap.specs.Bounds.{coordinateMax, BoundedPoint}
 use Rattle.overlap.specs.Geometry.{Point, point, Axis, xOf, yOf, zOf}
-use Rattle.overlap.specs.Grid.{Grid}
+use Rattle.overlap.specs.Grid.{Grid, cellsOf}
+use Rattle.ranges.specs.Range.{BoundedLattice, Few}
 use Rattle.reach.specs.Reaches.{InsideOn, InsideGrid}
 use Rattle.grid.proofs.Maps.{length-tabulate, getD-tabulate}
 use Rattle.fill.specs.Steel.{gridAt}
@@ -50,15 +51,16 @@ along-bounded : {o e : ℤ} {i : ℕ} → Within originMax o → Within edgeMax 
 along-bounded {i = i} o e h = within-weaken (lit≤ tt) (within-add o (within-mul {A = 64} {a = pos i} (record { within = h }) e))
 
 module _ {h : Header} (r : Ready h) where
-  pub grid-bounded : BoundedGrid (gridAt h)
+  pub grid-bounded : BoundedLattice (cellsOf (gridAt h))
   grid-bounded = record {
-    origin = record { x = within-weaken (lit≤ tt) (r .x .origin); y = within-weaken (lit≤ tt) (r .y .origin); z = within-weaken (lit≤ tt) (r .z .origin) };
+    first = record { x = within-weaken (lit≤ tt) (r .x .origin); y = within-weaken (lit≤ tt) (r .y .origin); z = within-weaken (lit≤ tt) (r .z .origin) };
     positive = r .positive;
-    edge = within-weaken (lit≤ tt) (r .edge);
-    nx = omega (arith, r .x .most);
-    ny = omega (arith, r .y .most);
-    nz = omega (arith, r .z .most);
+    step = within-weaken (lit≤ tt) (r .edge);
+    extent = within-weaken (lit≤ tt) (r .edge);
   }
+
+  pub grid-few : Few (h .cells .x) (h .cells .y) (h .cells .z)
+  grid-few = record { x = omega (arith, r .x .most); y = omega (arith, r .y .most); z = omega (arith, r .z .most) }
 
 -- ---- points
 module _ (ns : List ℤ) where

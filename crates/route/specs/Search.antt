@@ -1,5 +1,5 @@
 -- What the functions of the route test ask of a header and of a route, and what the search of a block answers. Definitions only.
-use mathlib.Core.Bool.{Bool, true, false}
+use mathlib.Core.Bool.{true, false}
 use mathlib.Core.List.{List, _∷_}
 use mathlib.Core.Path.{_≡_}
 use Prim.Native.Nat.{ℕ, _+_, _^_, _<_, _≤_}
@@ -8,12 +8,12 @@ use lib.Signed.{_<ℤ_}
 use Rattle.integers.specs.Within.{Within}
 use Rattle.frame.specs.declared.Header.{Header}
 use Rattle.frame.specs.Questions.{Question}
-use Rattle.overlap.specs.declared.BoxRange.{BoxRange}
-use Rattle.overlap.specs.declared.Setup.{Setup}
-use Rattle.overlap.specs.Geometry.{Triangle}
-use Rattle.overlap.specs.Range.{PicksBox}
-use Rattle.overlap.specs.Block.{edgesTest}
-use Rattle.overlap.specs.Setup.{formsIn}
+use Rattle.overlap.specs.Geometry.{Point, leg}
+use Rattle.overlap.specs.Grid.{cellsOf}
+use Rattle.ranges.specs.declared.BoxRange.{BoxRange}
+use Rattle.ranges.specs.Range.{PicksBox}
+use Rattle.legs.specs.declared.Slabs.{Slabs}
+use Rattle.legs.specs.Slab.{slabsOf}
 use Rattle.grid.specs.Map.{isFilled}
 use Rattle.fill.specs.Steel.{gridAt, mapQuestion}
 use Rattle.route.specs.declared.Found.{Found}
@@ -63,18 +63,9 @@ pub record NextCell (map : List ℕ) (row first end r : ℕ) : Type 0 where
   pub skipped : (i : ℕ) → i < r → first ≤ i → isFilled map (row + i) ≡ false
   pub stopped : r < end → isFilled map (row + r) ≡ true
 
--- Row j of layer k, by the forms in the plane YZ alone, which do not see where along the row a cell is.
-abbrev pub rowMay : Setup → (j k : ℕ) → Bool
-rowMay f j k = edgesTest (f .yz) (pos j) (pos j) (pos k) (pos k)
-
--- r is the first row of layer k, from `first` on and below `end`, that no such form rules out; or `end`.
-pub record NextRow (f : Setup) (k first end r : ℕ) : Type 0 where
-  pub from : first ≤ r
-  pub to : r ≤ end
-  pub skipped : (j : ℕ) → j < r → first ≤ j → rowMay f j k ≡ false
-  pub stopped : r < end → rowMay f r k ≡ true
-
--- For every triangle with these forms and this box of cells, the search finds the lowest cell filled and touched.
-abbrev pub Finds : Header → List ℕ → Setup → BoxRange → Found → Type 0
-Finds h map f b r =
-    (t : Triangle) → f ≡ formsIn (gridAt h) t → PicksBox t (gridAt h) b → r ≡ firstTouched (isFilled map) (gridAt h) t
+-- For every leg with these slabs and this box of cells, the search finds the lowest cell filled and touched.
+abbrev pub Finds : Header → List ℕ → Slabs → BoxRange → Found → Type 0
+Finds h map s b r =
+    let g = gridAt h in
+    (p q : Point) → s ≡ slabsOf (cellsOf g) p q → PicksBox (leg p q) (cellsOf g) (g .nx) (g .ny) (g .nz) b
+    → r ≡ firstTouched (isFilled map) g (leg p q)

@@ -3,8 +3,9 @@ use frame::Checked;
 use frame::Header;
 use frame::Limit;
 use frame::Verdict;
-use overlap::BoxRange;
+use legs::Slabs;
 use overlap::Vector;
+use ranges::BoxRange;
 ghost use mathlib.Core.Path.{_≡_};
 ghost use Prim.Native.Nat.{_+_, _*_, _≤_, _<_};
 ghost use lib.IntN.{pos, _+ℤ_, _*ℤ_};
@@ -12,16 +13,16 @@ ghost use lib.ListN.{length};
 ghost use Rattle.integers.specs.Within.{Within};
 ghost use Rattle.frame.specs.Limit.{gives};
 ghost use Rattle.frame.specs.Questions.{asked, answered, ofEach, saidVerdict};
-ghost use Rattle.overlap.specs.Bounds.{BoundedPoint, BoundedSetup};
+ghost use Rattle.overlap.specs.Bounds.{BoundedPoint};
 ghost use Rattle.overlap.specs.Geometry.{leg};
-ghost use Rattle.overlap.specs.Lent.{setupAt};
-ghost use Rattle.overlap.specs.Setup.{pointOf};
+ghost use Rattle.overlap.specs.Vectors.{pointOf};
 ghost use Rattle.grid.specs.Cells.{cellNumber};
 ghost use Rattle.grid.specs.Map.{mapLength, isFilled};
 ghost use Rattle.fill.specs.Steel.{gridAt, cellCount};
+ghost use Rattle.legs.specs.Slab.{BoundedSlabs};
 ghost use Rattle.route.specs.Route.{pointCount, pointsOf, pointAt, firstTouched, tested, insideOn, inside, pointQuestion, routeAnswer, saidRoute};
 ghost use Rattle.route.specs.Demand.{DemandOf};
-ghost use Rattle.route.specs.Search.{originMax, edgeMax, Ready, ReadyRoute, lastQuestions, InGrid, NextCell, NextRow, Finds};
+ghost use Rattle.route.specs.Search.{originMax, edgeMax, Ready, ReadyRoute, lastQuestions, InGrid, NextCell, Finds};
 
 // What a route test answers: the route is free; or blocked, by the first leg that touches a filled cell, at
 // the lowest such cell; or the first limit broken.
@@ -178,38 +179,51 @@ fn first_touched(header: Header, map: &[u8], a: Vector, b: Vector) -> Found
         y: position.y,
         z: position.z,
     };
-    let block = overlap::box_range(a, b, b, origin, header.edge, cells.x, cells.y, cells.z);
-    let forms = overlap::triangle_forms(a, b, b, origin, header.edge, cells.x, cells.y);
-    search(header, map, &forms, block)
+    let block = ranges::box_range(
+        a,
+        b,
+        b,
+        origin,
+        header.edge,
+        header.edge,
+        cells.x,
+        cells.y,
+        cells.z,
+    );
+    let slabs = legs::leg_slabs(a, b, origin, header.edge, header.edge);
+    search(header, map, slabs, block)
 }
 
-// The lowest filled cell of the block that no form rules out: by layers, rows and cells. Rows that a form rules out are
-// skipped, and so whole layers of them; in a row, cells that are not filled are skipped before their forms are asked.
-fn search(header: Header, map: &[u8], forms: &[i64; 34], block: BoxRange) -> Found
-    requires { ⌜ Ready header × (mapLength (cellCount header) ≤ length (now map)) × BoundedSetup (setupAt (now forms)) × InGrid header block ⌝ }
-    ensures { λ r. ⌜ Finds header (now (map .entry)) (setupAt (now (forms .entry))) block r ⌝ }
+// The lowest filled cell of the block that lies in the leg's slabs: by layers, rows and cells. Of a layer's rows only
+// those in the slab in YZ are looked at; in a row, cells that are not filled are skipped before their slabs are asked.
+fn search(header: Header, map: &[u8], slabs: Slabs, block: BoxRange) -> Found
+    requires { ⌜ Ready header × (mapLength (cellCount header) ≤ length (now map)) × BoundedSlabs slabs × InGrid header block ⌝ }
+    ensures { λ r. ⌜ Finds header (now (map .entry)) slabs block r ⌝ }
 {
     let x = block.x;
     let y = block.y;
     let z = block.z;
     let cells = header.cells;
     let mut found = Found::Nothing;
+    let mut near = y.first;
     let mut k = z.first;
     // Left by its label at the first cell that is filled and touched: the lowest, as k, j and i rise.
     'scan: while k < z.end {
-        let mut j = next_row(forms, k, y.first, y.end);
-        'rows: while j < y.end {
+        let rows = legs::rows(slabs, y, near, k);
+        near = rows.first;
+        let mut j = rows.first;
+        'rows: while j < rows.end {
             let row = grid::cell_number(cells.x, cells.y, 0, j, k);
             let mut i = next_cell(map, row, x.first, x.end);
             // Cell i of the row is filled: next_cell skips the others. It is now tested for touch.
             'cells: while i < x.end {
-                if overlap::may_overlap(forms, i, i, j, j, k, k) {
+                if legs::touches(slabs, i, j, k) {
                     found = Found::Cell(row + i);
                     break 'scan;
                 }
                 i = next_cell(map, row, i + 1, x.end);
             }
-            j = next_row(forms, k, j + 1, y.end);
+            j += 1;
         }
         k += 1;
     }
@@ -222,34 +236,4 @@ fn next_cell(map: &[u8], row: usize, first: usize, end: usize) -> usize
     ensures { λ r. ⌜ NextCell (now (map .entry)) row first end r ⌝ }
 {
     grid::next_filled(map, row + first, row + end) - row
-}
-
-// The first row of layer k, from `first` on and below `end`, that the forms in the plane YZ do not rule out, or `end`.
-// Rows are skipped by blocks: all that are left, then half as many each time that a block is not ruled out.
-fn next_row(forms: &[i64; 34], k: usize, first: usize, end: usize) -> usize
-    requires { ⌜ BoundedSetup (setupAt (now forms)) × (k ≤ 64) × (first ≤ end) × (end ≤ 64) ⌝ }
-    ensures { λ r. ⌜ NextRow (setupAt (now (forms .entry))) k first end r ⌝ }
-{
-    let mut j = first;
-    let mut more = 63;
-    while j < end {
-        let last = last_row(j, more, end);
-        if overlap::rows_may_overlap(forms, j, last, k, k) {
-            if more == 0 {
-                return j;
-            }
-            more = more / 2;
-        } else {
-            j = last + 1;
-        }
-    }
-    j
-}
-
-// The row `more` rows behind j, or the last below `end`.
-fn last_row(j: usize, more: usize, end: usize) -> usize
-    requires { ⌜ (j < end) × (more < 64) × (end ≤ 64) ⌝ }
-    ensures { λ r. ⌜ (j ≤ r) × (r < end) × (r ≤ j + more) ⌝ }
-{
-    if end <= j + more { end - 1 } else { j + more }
 }

@@ -3,19 +3,19 @@
 //!
 //!     bench fill PEER SCENE CELLS N       fill the scene's map N times, CELLS cells a side
 //!     bench count SCENE CELLS             print the number of filled cells
-//!     bench test PEER SCENE N             test 32 × 32 × 32 cells for every triangle of the scene N times
 //!     bench route PEER SHAPE ANSWER N     test a route of 63 legs N times: slim or wide, free or blocked
 //!     bench time fill SCENE CELLS         print the microseconds of rattle and of halving
 //!     bench time route SHAPE ANSWER       print the microseconds of rattle, rows, box and cells
 //!     bench stack                         print the greatest stack of a fill, a route test and a reading
 //!     bench check                         hold every peer to the rule as printed, and to the others
 
-mod cells;
 mod frame;
+mod halving;
 mod map;
 mod peers;
 mod routes;
 mod rule;
+mod runs;
 mod scenes;
 mod stack;
 mod time;
@@ -49,16 +49,13 @@ fn agree(file: &[u8], lent: usize) -> (Result<u32, Refusal>, Vec<u8>) {
 }
 
 fn check() {
-    let mut filled = 0;
+    let (mut maps, mut filled) = (0, 0);
     for scene in scenes::SCENES {
-        for cells in [16, 32, 64] {
-            let (answer, _) = agree(&scenes::file(scene, cells), LENT);
+        for cells in scenes::sizes(scene) {
+            let (answer, _) = agree(&scenes::file(scene, *cells), LENT);
+            maps += 1;
             filled += answer.unwrap();
         }
-    }
-    for triangle in scenes::triangles("plates") {
-        let [rattle, rust] = cells::PEERS.map(|(_, tests)| tests(&triangle, 100));
-        assert!(rattle == rust, "cells that pass: {rattle}, {rust}");
     }
     let mut random = scenes::Random(2);
     let (mut accepted, mut refused) = (0, 0);
@@ -87,24 +84,12 @@ fn check() {
             Err(_) => refused += 1,
         }
     }
-    println!("12 scenes, {accepted} accepted and {refused} refused files, {filled} filled cells: all alike");
+    println!("{maps} scenes, {accepted} accepted and {refused} refused files, {filled} filled cells: all alike");
 }
 
 /// The peer with a name.
 fn named<T: Copy>(peers: &[(&str, T)], name: &str) -> T {
     peers.iter().find(|peer| peer.0 == name).expect("peer").1
-}
-
-/// The overlap test alone, of every triangle of a scene.
-fn test_cells(tests: cells::Tests, scene: &str, times: usize) {
-    let grid = scenes::grid(32);
-    let triangles = scenes::triangles(scene);
-    for _ in 0..times {
-        for triangle in &triangles {
-            let triangle = triangle.map(|v| scenes::moved(v, grid.origin.map(|x| -x)));
-            black_box(tests(black_box(&triangle), grid.edge));
-        }
-    }
 }
 
 /// The route test, of a route to measure.
@@ -189,9 +174,6 @@ fn main() {
             for _ in 0..times.parse().unwrap() {
                 black_box(fill(black_box(&file), black_box(&mut map)).unwrap());
             }
-        }
-        ["test", peer, scene, times] => {
-            test_cells(named(&cells::PEERS, peer), scene, times.parse().unwrap());
         }
         ["route", peer, shape, answer, times] => {
             let test = named(&routes::PEERS, peer);

@@ -20,7 +20,12 @@ impl<'a> Map<'a> {
     #[inline(always)]
     pub fn set(&mut self, [i, j, k]: [usize; 3]) {
         let [nx, ny, _] = self.grid.cells;
-        let n = i + nx * (j + ny * k);
+        self.fill(i + nx * (j + ny * k));
+    }
+
+    /// Fills cell n.
+    #[inline(always)]
+    pub fn fill(&mut self, n: usize) {
         self.bytes[n / 8] |= 128 >> (n % 8);
     }
 

@@ -1,8 +1,9 @@
 //! The peers: four ways to fill a map. Each reads the file, asks the questions, and counts.
 
 use crate::frame::{Frame, Grid, Refusal};
+use crate::halving;
 use crate::map::Map;
-use crate::rule::{as_printed, cells_of_box, far_end, Block, Point, Setup, Triangle, PLANES};
+use crate::rule::{as_printed, cells_of_box, Block, Point, Setup, Triangle, PLANES};
 
 /// A fill: the number of filled cells, or the refusal.
 pub type Fill = fn(&[u8], &mut [u8]) -> Result<u32, Refusal>;
@@ -135,139 +136,10 @@ fn walk_columns<const W: usize>(map: &mut Map, setup: &Setup, block: Block) {
     }
 }
 
-// ---- the box of cells halved down to single cells, without the halves that a form rules out
+// ---- blocks of columns, halved without the halves that an edge rules out: as the library does
 
 pub fn halving(file: &[u8], map: &mut [u8]) -> Result<u32, Refusal> {
-    fill_by(file, map, |map, t| {
-        if let Some(block) = cells_of_box(t, &map.grid) {
-            let forms = Setup::in_cells(t, &map.grid);
-            let whole = block.map(|cells| Side {
-                low: cells.start as i64,
-                high: cells.end as i64 - 1,
-            });
-            if forms.may_overlap(whole.map(|side| side.low), whole.map(|side| side.high)) {
-                fill_block(map, &forms, whole);
-            }
-        }
-    })
-}
-
-/// The cells of an axis from `low` to `high`, both included.
-#[derive(Clone, Copy)]
-struct Side {
-    low: i64,
-    high: i64,
-}
-
-impl Side {
-    /// The greatest m × q, with q from low to high.
-    #[inline(always)]
-    fn most(self, m: i64) -> i64 {
-        m * far_end(m, self.low, self.high)
-    }
-
-    /// The least.
-    #[inline(always)]
-    fn least(self, m: i64) -> i64 {
-        m * far_end(m, self.high, self.low)
-    }
-
-    /// The lower and the upper half.
-    #[inline(always)]
-    fn halves(self) -> [Side; 2] {
-        let Side { low, high } = self;
-        let middle = (low + high) >> 1;
-        [
-            Side { low, high: middle },
-            Side {
-                low: middle + 1,
-                high,
-            },
-        ]
-    }
-}
-
-/// Fills the cells of a block that no form rules out, where none rules out the block. The last of
-/// the pending blocks is taken and cut across its longest side, and its halves that no form rules
-/// out take its place. At most 18 cuts lead to a single cell.
-fn fill_block(map: &mut Map, forms: &Setup, whole: [Side; 3]) {
-    let mut blocks = [[Side { low: 0, high: 0 }; 3]; 19];
-    blocks[0] = whole;
-    let mut pending = 1;
-    while pending > 0 {
-        pending -= 1;
-        let [x, y, z] = blocks[pending];
-        let [i, j, k] = [x, y, z].map(|side| side.high - side.low);
-        if i + j + k == 0 {
-            map.set([x.low as usize, y.low as usize, z.low as usize]);
-            continue;
-        }
-        let (lower, upper, low, high);
-        if i >= j && i >= k {
-            let [x0, x1] = x.halves();
-            (lower, upper) = halves_may_overlap::<0>(forms, x0.high, y, z);
-            (low, high) = ([x0, y, z], [x1, y, z]);
-        } else if j >= k {
-            let [y0, y1] = y.halves();
-            (lower, upper) = halves_may_overlap::<1>(forms, y0.high, z, x);
-            (low, high) = ([x, y0, z], [x, y1, z]);
-        } else {
-            let [z0, z1] = z.halves();
-            (lower, upper) = halves_may_overlap::<2>(forms, z0.high, x, y);
-            (low, high) = ([x, y, z0], [x, y, z1]);
-        }
-        if upper {
-            blocks[pending] = high;
-            pending += 1;
-        }
-        if lower {
-            blocks[pending] = low;
-            pending += 1;
-        }
-    }
-}
-
-/// Which halves of a block no form rules out, where none rules out the block. The cut is behind
-/// cell `middle` of axis W; u and v are the block's sides on the two axes that W stands upright on.
-/// Each form is asked of one half only: in the other it is as great as in the block. Kept apart from
-/// its caller, which would else load all forms before it looks at a block.
-#[inline(never)]
-fn halves_may_overlap<const W: usize>(
-    forms: &Setup,
-    middle: i64,
-    u: Side,
-    v: Side,
-) -> (bool, bool) {
-    // the greatest slope × q in the half where that is not as great as in the block
-    let at_cut = |slope: i64| slope * far_end(slope, middle + 1, middle);
-    // 1 for the lower half, 2 for the upper; rule_out says whether neither is left
-    let mut ruled_out = 0;
-    let mut rule_out = |upper: bool| {
-        ruled_out |= if upper { 2 } else { 1 };
-        ruled_out == 3
-    };
-    let n = &forms.normal;
-    let (a, b) = PLANES[W];
-    let greatest = at_cut(n[W]) + u.most(n[a]) + v.most(n[b]) + forms.above;
-    if greatest < 0 {
-        rule_out(n[W] < 0);
-    }
-    let least =
-        n[W] * far_end(n[W], middle, middle + 1) + u.least(n[a]) + v.least(n[b]) + forms.below;
-    if least > 0 && rule_out(n[W] >= 0) {
-        return (false, false);
-    }
-    for e in &forms.edges[b] {
-        if at_cut(e.a) + u.most(e.b) + e.c < 0 && rule_out(e.a < 0) {
-            return (false, false);
-        }
-    }
-    for e in &forms.edges[a] {
-        if at_cut(e.b) + v.most(e.a) + e.c < 0 && rule_out(e.b < 0) {
-            return (false, false);
-        }
-    }
-    (ruled_out & 1 == 0, ruled_out & 2 == 0)
+    fill_by(file, map, halving::fill_triangle)
 }
 
 // ---- every cell of the grid by the rule as printed: no peer, but what the peers are held to

@@ -2,7 +2,8 @@
 
 use crate::frame::{Frame, Grid, Refusal};
 use crate::peers::{corner, rattle as fill};
-use crate::rule::{as_printed, cells_of_box, far_end, Block, Point, Setup, Triangle};
+use crate::rule::{as_printed, cells_of_box, Block, Point, Setup, Triangle, PLANES};
+use crate::runs;
 use crate::scenes::{self, Random};
 use std::collections::HashSet;
 
@@ -122,68 +123,77 @@ fn is_filled(map: &[u8], n: usize) -> bool {
     map[n / 8] & (128 >> (n % 8)) != 0
 }
 
-// ---- rows and cells, without the rows that an edge in the plane YZ rules out: as the library does
+// ---- rows and cells, without the rows that lie outside of the slab in YZ: as the library does
 
+/// A leg in the plane of two axes: the cells with the numbers i and j there at which
+/// a × i + b × j + c is from 0 to `reach`. a is not negative.
+struct Slab {
+    a: i64,
+    b: i64,
+    c: i64,
+    reach: i64,
+}
+
+impl Slab {
+    /// The slab in the plane that axis w stands upright on. The leg is taken in the direction in which
+    /// it does not rise on the plane's second axis.
+    fn new([from, to, _]: &Triangle, grid: &Grid, w: usize) -> Slab {
+        let ((u, v), s) = (PLANES[w], grid.edge);
+        let (p, q) = (from[u] - grid.origin[u], from[v] - grid.origin[v]);
+        let turn = if to[v] > from[v] { -1 } else { 1 };
+        let (a, b) = (turn * (from[v] - to[v]), turn * (to[u] - from[u]));
+        Slab {
+            a: s * a,
+            b: s * b,
+            c: s * (a + b.max(0)) - (a * p + b * q),
+            reach: s * (a + b.abs()),
+        }
+    }
+
+    /// Does the cell with the numbers i and j lie in the slab?
+    #[inline(always)]
+    fn holds(&self, i: usize, j: usize) -> bool {
+        (0..=self.reach).contains(&(self.a * i as i64 + self.b * j as i64 + self.c))
+    }
+}
+
+/// The rows of a layer that lie in the slab in YZ are one range, sought from that of the layer below.
 fn rows(file: &[u8], map: &[u8], numbers: &[i16]) -> Answer {
     test_by(file, map, numbers, |grid, map, leg, [x, y, z]| {
-        let forms = Setup::in_cells(leg, grid);
+        let [yz, zx, xy] = [0, 1, 2].map(|w| Slab::new(leg, grid, w));
+        let y = y.start as i64..y.end as i64;
+        let mut near = y.start;
         for k in z {
-            // the edges in the plane YZ, as forms of a row of this layer
-            let edges = forms.edges[0].map(|e| (e.a, e.b * k as i64 + e.c));
-            let mut j = next_row(&edges, y.start, y.end);
-            while j < y.end {
+            let rows = runs::in_slab(&y, near, yz.a, yz.b * k as i64 + yz.c, yz.reach);
+            near = rows.start;
+            for j in rows.start as usize..rows.end as usize {
                 let row = number(grid, 0, j, k);
-                let mut i = next_cell(map, row, x.start, x.end);
-                while i < x.end {
-                    if forms.overlaps([i as i64, j as i64, k as i64]) {
-                        return Some(row + i);
+                let (mut n, end) = (row + x.start, row + x.end);
+                while let Some(found) = next_filled(map, n, end) {
+                    let i = found - row;
+                    if xy.holds(i, j) && zx.holds(k, i) {
+                        return Some(found);
                     }
-                    i = next_cell(map, row, i + 1, x.end);
+                    n = found + 1;
                 }
-                j = next_row(&edges, j + 1, y.end);
             }
         }
         None
     })
 }
 
-/// The first filled cell of a row, from `first` on and below `end`, or `end`. Bytes with no filled
-/// cell are skipped.
-#[inline(never)]
-fn next_cell(map: &[u8], row: usize, mut first: usize, end: usize) -> usize {
-    while first < end {
-        let n = row + first;
+/// The first filled cell from n on and below `end`. Bytes with no filled cell are skipped.
+fn next_filled(map: &[u8], mut n: usize, end: usize) -> Option<usize> {
+    while n < end {
         if map[n / 8] == 0 {
-            first = ((n | 7) + 1 - row).min(end);
+            n = (n | 7) + 1;
         } else if is_filled(map, n) {
-            break;
+            return Some(n);
         } else {
-            first += 1;
+            n += 1;
         }
     }
-    first
-}
-
-/// The first row of a layer, from `first` on and below `end`, that no edge rules out, or `end`. Rows
-/// are skipped by blocks: all that are left, then half as many each time that a block is not ruled
-/// out.
-#[inline(always)]
-fn next_row(edges: &[(i64, i64); 3], mut first: usize, end: usize) -> usize {
-    let mut more = 63;
-    while first < end {
-        let last = (first + more).min(end - 1);
-        let may_touch = edges
-            .iter()
-            .all(|(a, rest)| a * far_end(*a, first as i64, last as i64) + rest >= 0);
-        if !may_touch {
-            first = last + 1;
-        } else if more > 0 {
-            more /= 2;
-        } else {
-            break;
-        }
-    }
-    first
+    None
 }
 
 // ---- every cell of a leg's box of cells: the overlap test, then the map's bit

@@ -63,18 +63,6 @@ impl Setup {
         }
     }
 
-    /// The forms for the cells of a grid, each cell given by its numbers in place of its lowest corner.
-    pub fn in_cells(t: &Triangle, grid: &Grid) -> Setup {
-        let from_origin = |v: Point| [0, 1, 2].map(|w| v[w] - grid.origin[w]);
-        let mut setup = Setup::new(&t.map(from_origin), grid.edge);
-        setup.normal = setup.normal.map(|n| n * grid.edge);
-        for e in setup.edges.iter_mut().flatten() {
-            e.a *= grid.edge;
-            e.b *= grid.edge;
-        }
-        setup
-    }
-
     /// Does the cell with lowest corner (u, v) in plane w reach the inner side of all three edges?
     #[inline(always)]
     pub fn in_plane(&self, w: usize, u: i64, v: i64) -> bool {
@@ -91,39 +79,6 @@ impl Setup {
             && self.in_plane(2, p[0], p[1])
             && self.in_plane(0, p[1], p[2])
             && self.in_plane(1, p[2], p[0])
-    }
-
-    /// May a cell with lowest corner from `low` to `high` pass that test, as far as each form by
-    /// itself can tell? Of a single cell the answer is the test's.
-    #[inline(always)]
-    pub fn may_overlap(&self, low: Point, high: Point) -> bool {
-        let n = &self.normal;
-        let far = |low: Point, high: Point| -> i64 {
-            (0..3).map(|w| n[w] * far_end(n[w], low[w], high[w])).sum()
-        };
-        let in_plane = |w: usize| {
-            let (u, v) = PLANES[w];
-            self.edges[w].iter().all(|e| {
-                let u = far_end(e.a, low[u], high[u]);
-                let v = far_end(e.b, low[v], high[v]);
-                e.a * u + e.b * v + e.c >= 0
-            })
-        };
-        far(high, low) + self.below <= 0
-            && far(low, high) + self.above >= 0
-            && in_plane(2)
-            && in_plane(0)
-            && in_plane(1)
-    }
-}
-
-/// The end of the range from `low` to `high` at which m × q is greatest.
-#[inline(always)]
-pub fn far_end(m: i64, low: i64, high: i64) -> i64 {
-    if m < 0 {
-        low
-    } else {
-        high
     }
 }
 

@@ -27,10 +27,26 @@ impl Random {
 }
 
 /// A point moved by a vector.
-pub fn moved(p: Point, by: Point) -> Point {
+fn moved(p: Point, by: Point) -> Point {
     [p[0] + by[0], p[1] + by[1], p[2] + by[2]]
 }
 
+/// A point with another coordinate on axis w.
+fn with(mut p: Point, w: usize, x: i64) -> Point {
+    p[w] = x;
+    p
+}
+
+/// Three corners in one line: a point, a second near another, and the middle of the two.
+fn in_line(from: Point, to: Point) -> Triangle {
+    let half = [0, 1, 2].map(|w| (to[w] - from[w]) / 2);
+    let middle = moved(from, half);
+    [from, moved(middle, half), middle]
+}
+
+/// The least and the greatest coordinate of a file.
+const LEAST: i64 = -8192;
+const GREATEST: i64 = 8191;
 /// The grids' extent: the same cube of 3.2 m for each size.
 const LOW: i64 = -1600;
 const HIGH: i64 = 1600;
@@ -47,7 +63,17 @@ pub fn grid(cells: usize) -> Grid {
 }
 
 /// The scenes to fill. The rails at the sides are for routes.
-pub const SCENES: [&str; 4] = ["rails", "plates", "small", "diagonal"];
+pub const SCENES: [&str; 7] = [
+    "rails", "plates", "small", "diagonal", "flat", "outside", "worst",
+];
+
+/// How many cells a side a scene is filled at.
+pub fn sizes(scene: &str) -> &'static [usize] {
+    match scene {
+        "worst" => &[64],
+        _ => &[16, 32, 64],
+    }
+}
 
 /// The triangles of a scene.
 pub fn triangles(scene: &str) -> Vec<Triangle> {
@@ -89,6 +115,36 @@ pub fn triangles(scene: &str) -> Vec<Triangle> {
             .collect(),
         // a face of the octahedron in the cube
         "diagonal" => vec![[[HIGH, LOW, LOW], [LOW, HIGH, LOW], [LOW, LOW, HIGH]]],
+        // without area: segments, along an axis or not, three corners in one line, and points
+        "flat" => (0..400)
+            .map(|i| {
+                let [a, b] = [0; 2].map(|_| random.point(LOW, HIGH));
+                match i % 4 {
+                    0 => [a, b, b],
+                    1 => in_line(a, b),
+                    2 => [a, a, with(a, i / 4 % 3, b[i / 4 % 3])],
+                    _ => [a, a, a],
+                }
+            })
+            .collect(),
+        // of any size, in and around the grid: most lie outside of it, or cross its border
+        "outside" => (0..2000)
+            .map(|_| {
+                let p = random.point(2 * LOW, 2 * HIGH);
+                let size = 1 << random.between(4, 12);
+                [0; 3]
+                    .map(|_| moved(p, random.point(-size, size)).map(|x| x.clamp(LEAST, GREATEST)))
+            })
+            .collect(),
+        // any three points of the grid's six sides, as many as a file can hold
+        "worst" => (0..4095)
+            .map(|_| {
+                [0; 3].map(|_| {
+                    let side = [LOW, HIGH][random.between(0, 1) as usize];
+                    with(random.point(LOW, HIGH), random.between(0, 2) as usize, side)
+                })
+            })
+            .collect(),
         _ => panic!("no scene {scene}"),
     }
 }
@@ -112,12 +168,11 @@ pub fn file(scene: &str, cells: usize) -> Vec<u8> {
     write(&grid(cells), &triangles(scene))
 }
 
-/// A small file of any shape: other sides, corners outside the grid, flat triangles, corners on
-/// the planes between cells.
+/// A small file of any shape: other sides, and triangles of any kind.
 pub fn any_file(random: &mut Random) -> Vec<u8> {
     let cells = [0; 3].map(|_| random.between(1, 12) as usize);
     let edge = random.between(1, 255);
-    let origin = [0, 1, 2].map(|w| random.between(-8192, 8191 - cells[w] as i64 * edge));
+    let origin = [0, 1, 2].map(|w| random.between(LEAST, GREATEST - cells[w] as i64 * edge));
     let grid = Grid {
         cells,
         edge,
@@ -126,29 +181,55 @@ pub fn any_file(random: &mut Random) -> Vec<u8> {
     let on_lattice = random.between(0, 1) == 1;
     let triangles: Vec<Triangle> = (0..random.between(0, 6))
         .map(|_| {
-            let mut corner = || {
-                [0, 1, 2].map(|w| {
-                    let length = cells[w] as i64 * edge;
-                    let mut x = random.between(-length / 2, length + length / 2);
-                    if on_lattice {
-                        x = x.div_euclid(edge) * edge;
-                    }
-                    (origin[w] + x).clamp(-8192, 8191)
-                })
-            };
-            let [a, b, c] = [corner(), corner(), corner()];
-            match random.between(0, 5) {
-                0 => [a, a, a],
-                1 => [a, b, b],
-                2 => [a, a, c],
-                3 => {
-                    // three points in one line
-                    let half = [0, 1, 2].map(|w| (b[w] - a[w]) / 2);
-                    [a, moved(moved(a, half), half), moved(a, half)]
-                }
-                _ => [a, b, c],
-            }
+            let corners = [0; 3].map(|_| any_corner(random, &grid, on_lattice));
+            any_triangle(random, &grid, corners).map(|p| p.map(|x| x.clamp(LEAST, GREATEST)))
         })
         .collect();
     write(&grid, &triangles)
+}
+
+/// A point in or around the grid; on the planes between cells, where that is wanted.
+fn any_corner(random: &mut Random, grid: &Grid, on_lattice: bool) -> Point {
+    [0, 1, 2].map(|w| {
+        let length = grid.cells[w] as i64 * grid.edge;
+        let x = random.between(-length / 2, length + length / 2);
+        grid.origin[w]
+            + if on_lattice {
+                x.div_euclid(grid.edge) * grid.edge
+            } else {
+                x
+            }
+    })
+}
+
+/// A triangle made of three points, or of some of their coordinates.
+fn any_triangle(random: &mut Random, grid: &Grid, [a, b, c]: Triangle) -> Triangle {
+    let w = random.between(0, 2) as usize;
+    match random.between(0, 11) {
+        0 => [a, a, a],
+        1 => [a, b, b],
+        2 => [a, a, c],
+        3 => in_line(a, b),
+        // along an axis
+        4 => [a, with(a, w, b[w]), with(a, w, c[w])],
+        // across an axis
+        5 => [a, with(b, w, a[w]), with(c, w, a[w])],
+        // from afar
+        6 => [a, b, random.point(LEAST, GREATEST)],
+        7 => [0; 3].map(|_| random.point(LEAST, GREATEST)),
+        // in a row along an axis
+        8 | 9 => in_row(random, grid, w, [a, b, c]),
+        _ => [a, b, c],
+    }
+}
+
+/// A triangle that stays within about one cell on all axes but w, within the grid or at its border:
+/// it may reach beyond the cell by 1.
+fn in_row(random: &mut Random, grid: &Grid, w: usize, t: Triangle) -> Triangle {
+    let cell = [0, 1, 2].map(|w| random.between(-1, grid.cells[w] as i64));
+    t.map(|p| {
+        let near = [0, 1, 2]
+            .map(|w| grid.origin[w] + cell[w] * grid.edge + random.between(-1, grid.edge + 1));
+        with(near, w, p[w])
+    })
 }

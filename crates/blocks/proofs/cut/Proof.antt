@@ -1,38 +1,26 @@
--- `blocks::cut` meets its contract: the longest side of a block of several cells has two cells. Assumes nothing.
+-- `blocks::cut` meets its contract. Assumes nothing.
 use borrow.Author.Needs.{needs}
 use native.Mathlib.Omega.{arith}
-use Prim.Native.Nat.{_+_, _<_}
-use Rattle.blocks.proofs.Blocks.{several}
+use Rattle.blocks.proofs.Cuts.{cut-range, halved-u, halved-v, long-u, long-v}
 use Rattle.blocks.proofs.cut.Statement.{statement}
 use Rattle.blocks.proofs.cut.Tie as tie
 
-more : (s : tie.Start) → let b = s .args .b in b .lx + b .ly + b .lz < b .hx + b .hy + b .hz
-more s = several (s .args .b) (s .pre .0 .some) (s .pre .1)
+returns : tie.Need-returns
+returns c =
+    let t = c .before in
+    let s = t .before .before .before in
+    let b = s .args .b in
+    let p = s .pre in
+    halved-u b (p .0) (cut-range (b .u0) (b .u1) (c .middle .result) (c .middle .ensures) (long-u b (p .1) (t .if1 .taken)) (p .0 .u .most))
 
-cut-x-requires : tie.Need-cut-x-requires
-cut-x-requires c κs = let s = c .before .before .before .before .before in (s .pre .0, omega (arith, more s))
-
-cut-z-requires : tie.Need-cut-z-requires
-cut-z-requires c κs = (c .before .before .before .before .before .pre .0, omega arith)
-
-cut-y-requires : tie.Need-cut-y-requires
-cut-y-requires c κs = (c .before .before .before .before .before .pre .0, omega arith)
-
-cut-z-requires-2 : tie.Need-cut-z-requires-2
-cut-z-requires-2 c κs = (c .before .before .before .before .before .pre .0, omega arith)
+returns-2 : tie.Need-returns-2
+returns-2 c =
+    let t = c .before in
+    let s = t .before .before .before in
+    let b = s .args .b in
+    let p = s .pre in
+    halved-v b (p .0) (cut-range (b .v0) (b .v1) (c .middle2 .result) (c .middle2 .ensures) (long-v b (p .1) (omega (arith, t .if1 .left))) (p .0 .v .most))
 
 pub cut-spec : {M : Type 1} → statement M
 cut-spec =
-    tie.close
-    (tie.spec
-    (λ c. search needs)
-    (λ c. search needs)
-    (λ c. search needs)
-    cut-x-requires
-    (λ c. c .cut-x .ensures)
-    cut-z-requires
-    (λ c. c .cut-z .ensures)
-    cut-y-requires
-    (λ c. c .cut-y .ensures)
-    cut-z-requires-2
-    (λ c. c .cut-z2 .ensures))
+    tie.close (tie.spec (λ c. search needs) (λ c. search needs) (λ c. search needs) (λ c. search needs) returns returns-2)

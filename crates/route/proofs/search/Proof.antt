@@ -1,5 +1,4 @@
 -- `route::search` meets its contract: no cell that is looked for lies before the loops' layer, row and cell. Assumes nothing.
-use borrow.Author.Needs.{needs}
 use borrow.Author.Count.{below-more}
 use mathlib.Core.Bool.{false, true}
 use mathlib.Core.Path.{_≡_, refl, sym, ap, _∙_}
@@ -8,38 +7,39 @@ use native.Mathlib.Nat.{mul-le-mul}
 use lib.ListN.{length}
 use native.Mathlib.Decide.{decLt}
 use native.Mathlib.Omega.{arith}
-use Rattle.overlap.specs.declared.BoxRange.{BoxRange}
-use Rattle.overlap.specs.declared.Setup.{Setup}
 use Rattle.overlap.specs.Grid.{Grid}
-use Rattle.overlap.specs.Lent.{setupAt}
+use Rattle.ranges.specs.declared.BoxRange.{BoxRange}
+use Rattle.legs.specs.declared.Slabs.{Slabs}
+use Rattle.legs.specs.Slab.{rowHolds}
 use Rattle.grid.specs.Cells.{cellNumber}
 use Rattle.grid.specs.Map.{isFilled}
 use Rattle.grid.proofs.Numbers.{number-lt}
 use Rattle.fill.specs.Steel.{gridAt}
-use Rattle.blocks.proofs.Ways.{apart}
 use Rattle.route.specs.declared.Found.the-variants.{Cell, Nothing}
-use Rattle.route.proofs.Blocks.{No, Layers, Rows, Cells, no-row, either, found-none, found-at}
+use Rattle.route.proofs.First.{apart}
+use Rattle.route.proofs.Scan.{In, No, Layers, Rows, Cells, row-in, no-row, either, found-none, found-at}
 use Rattle.route.proofs.search.Statement.{statement}
 use Rattle.route.proofs.search.Tie as tie
 
 abbrev Inv-cells : tie.InvT-cells
-Inv-cells map forms x y z cells found₀ k j row i₀ found i =
-    (found ≡ Nothing) × (x .first ≤ i) × (i < x .end → isFilled map (row + i) ≡ true) × Cells map (cells .x) (cells .y) (setupAt forms) x y z k j i
+Inv-cells map slabs x y z cells found₀ near k rows j row i₀ found i =
+    (found ≡ Nothing) × (x .first ≤ i) × (i < x .end → isFilled map (row + i) ≡ true) × Cells map (cells .x) (cells .y) slabs x y z k j i
 
 abbrev μ-cells : tie.MeasureT-cells
-μ-cells map forms x y z cells found₀ k j row i₀ found i = x .end - i
+μ-cells map slabs x y z cells found₀ near k rows j row i₀ found i = x .end - i
 
 abbrev Inv-rows : tie.InvT-rows
-Inv-rows map forms x y z cells found₀ k j₀ found j = (found ≡ Nothing) × (y .first ≤ j) × Rows map (cells .x) (cells .y) (setupAt forms) x y z k j
+Inv-rows map slabs x y z cells found₀ near k rows j₀ found j = (found ≡ Nothing) × (rows .first ≤ j) × Rows map (cells .x) (cells .y) slabs x y z k j
 
 abbrev μ-rows : tie.MeasureT-rows
-μ-rows map forms x y z cells found₀ k j₀ found j = y .end - j
+μ-rows map slabs x y z cells found₀ near k rows j₀ found j = rows .end - j
 
 abbrev Inv-scan : tie.InvT-scan
-Inv-scan map forms x y z cells found₀ k₀ found k = (found ≡ Nothing) × (z .first ≤ k) × Layers map (cells .x) (cells .y) (setupAt forms) x y z k
+Inv-scan map slabs x y z cells found₀ near₀ k₀ found near k =
+    (found ≡ Nothing) × (z .first ≤ k) × Layers map (cells .x) (cells .y) slabs x y z k × (y .first ≤ near) × (near ≤ y .end)
 
 abbrev μ-scan : tie.MeasureT-scan
-μ-scan map forms x y z cells found₀ k₀ found k = z .end - k
+μ-scan map slabs x y z cells found₀ near₀ k₀ found near k = z .end - k
 
 -- each place, from the one behind it
 abbrev Start : Type 0
@@ -66,8 +66,8 @@ rows-of c = c .before .before .before .before .before
 abbrev grid : Start → Grid
 grid s = gridAt (s .args .header)
 
-abbrev forms : Start → Setup
-forms s = setupAt (s .args .forms .now)
+abbrev slabs : Start → Slabs
+slabs s = s .args .slabs
 
 -- ---- the block lies in the grid
 module _ (s : Start) where
@@ -83,66 +83,63 @@ module _ (s : Start) where
   k-in : {k : ℕ} → k < block .z .end → k < 64
   k-in l = let p = s .pre in omega (arith, p .3 .z, p .0 .z .most)
 
-  y-end : block .y .end ≤ 64
-  y-end = let p = s .pre in omega (arith, p .3 .y, p .0 .y .most)
-
 -- the layer, the row and the cell that the loops are at
 k-at : (m : In-rows) → scan-of m .scan .k < block (start (scan-of m)) .z .end
 k-at m = m .before .before .if1 .taken
 
-j-at : (l : In-cells) → rows-of l .rows .j < block (start (scan-of (rows-of l))) .y .end
-j-at l = l .before .before .before .if2 .taken
+row-at : (m : In-rows) → m .rows .j < m .before .rows2 .result .end → let o = scan-of m in let s = start o in
+    In (block s .y) (m .rows .j) × (rowHolds (slabs s) (o .scan .k) (m .rows .j) ≡ true)
+row-at m l = row-in (m .before .rows2 .ensures) (m .rows .j) (m .rows .inv .1, l)
+
+j-at : (l : In-cells) → let m = rows-of l in let o = scan-of m in let s = start o in
+    In (block s .y) (m .rows .j) × (rowHolds (slabs s) (o .scan .k) (m .rows .j) ≡ true)
+j-at l = row-at (rows-of l) (l .before .before .before .if2 .taken)
 
 -- ---- the loop over layers
-next-row-requires : tie.Need-next-row-requires Inv-cells μ-cells Inv-rows μ-rows Inv-scan μ-scan
-next-row-requires c κs =
-    let s = start (c .before .before) in
+rows-requires : tie.Need-rows-requires Inv-cells μ-cells Inv-rows μ-rows Inv-scan μ-scan
+rows-requires c κs =
+    let o = c .before .before in
+    let s = start o in
+    let p = s .pre in
     let k = k-in s (c .if1 .taken) in
-    (s .pre .2, omega arith, s .pre .3 .y-from, y-end s)
+    (p .2, record { low = o .scan .inv .3; high = o .scan .inv .4; most = omega (arith, p .3 .y, p .0 .y .most); layer = omega arith })
 
 scan-again : tie.Need-scan-again Inv-cells μ-cells Inv-rows μ-rows Inv-scan μ-scan
 scan-again c =
     let m = c .before .before in
+    let r = m .before in
     let o = scan-of m in
-    (m .rows .inv .0, omega arith, below-more _ _ (o .scan .inv .2) (λ a b ha hb. m .rows .inv .2 b (omega (arith, hb .1)) a ha hb))
+    let s = start o in
+    let b = block s in
+    let n = r .rows2 .ensures in (
+      m .rows .inv .0,
+      omega arith,
+      below-more _ _ (o .scan .inv .2)
+          (λ a j ha hj.
+          either (decLt j (m .rows .j)) (λ v. m .rows .inv .2 j v a ha hj)
+          (λ v. no-row (s .args .map .now) (grid s .nx) (grid s .ny) (slabs s) (b .x) (b .y) (b .z) n j (λ h. omega (arith, h .1, c .if2 .left)) a ha hj)),
+      n .from,
+      omega (arith, n .ordered, n .to),
+    )
 
 -- ---- the loop over rows
 rows-holds : tie.Need-rows-holds Inv-cells μ-cells Inv-rows μ-rows Inv-scan μ-scan
 rows-holds c =
     let o = c .before .before .before in
     let s = start o in
-    let next = c .next-row .ensures in
     let b = block s in (
       o .scan .inv .0,
-      next .from,
-      λ j l a ha hj. no-row (s .args .map .now) (grid s .nx) (grid s .ny) (forms s) (b .x) (b .y) (b .z) j (o .scan .k) (next .skipped j l (hj .0)) a ha hj,
+      omega arith,
+      λ j l a. no-row (s .args .map .now) (grid s .nx) (grid s .ny) (slabs s) (b .x) (b .y) (b .z) (c .rows2 .ensures) j (λ h. omega (arith, h .0)) a,
     )
-
-next-row-requires-2 : tie.Need-next-row-requires-2 Inv-cells μ-cells Inv-rows μ-rows Inv-scan μ-scan
-next-row-requires-2 c κs =
-    let l = c .before .before in
-    let m = rows-of l in
-    let s = start (scan-of m) in
-    let k = k-in s (k-at m) in
-    let j = j-at l in
-    (s .pre .2, omega arith, omega (arith, j), y-end s)
 
 rows-again : tie.Need-rows-again Inv-cells μ-cells Inv-rows μ-rows Inv-scan μ-scan
 rows-again c =
-    let l = c .before .before .before in
-    let m = rows-of l in
-    let o = scan-of m in
-    let s = start o in
-    let b = block s in
-    let next = c .next-row2 .ensures in (
+    let l = c .before .before in
+    let m = rows-of l in (
       l .cells .inv .0,
-      omega (arith, next .from, m .rows .inv .1),
-      λ j u a ha hj.
-          either (decLt j (m .rows .j)) (λ v. m .rows .inv .2 j v a ha hj)
-          (λ v.
-          either (decLt (m .rows .j) j)
-          (λ w. no-row (s .args .map .now) (grid s .nx) (grid s .ny) (forms s) (b .x) (b .y) (b .z) j (o .scan .k) (next .skipped j u (omega arith)) a ha hj)
-          (λ w. let e : j ≡ m .rows .j = omega arith in rw e (l .cells .inv .3 a (omega (arith, ha .1, c .before .if3 .left)) ha (rw e at hj)))),
+      omega (arith, m .rows .inv .1),
+      below-more _ _ (m .rows .inv .2) (λ a ha. l .cells .inv .3 a (omega (arith, ha .1, c .if3 .left)) ha),
     )
 
 -- ---- the loop over cells
@@ -157,7 +154,7 @@ cell-number-requires c κs =
     let m = c .before .before in
     let s = start (scan-of m) in
     let p = s .pre .0 in
-    (p .x .most, p .y .most, omega arith, j-in s (c .if2 .taken), k-in s (k-at m))
+    (p .x .most, p .y .most, omega arith, j-in s (row-at m (c .if2 .taken) .0 .1), k-in s (k-at m))
 
 -- the number of a cell of the row, and that the row lies in the grid
 cell-is : (c : Row) (i : ℕ) → let m = rows-at c in let g = grid (start (scan-of m)) in
@@ -171,7 +168,7 @@ row-fits c =
     let s = start o in
     let g = grid s in
     let p = s .pre in
-    let j : m .rows .j < g .ny = omega (arith, c .before .if2 .taken, p .3 .y) in
+    let j : m .rows .j < g .ny = omega (arith, row-at m (c .before .if2 .taken) .0 .1, p .3 .y) in
     let k : o .scan .k < g .nz = omega (arith, k-at m, p .3 .z) in
     let some = p .0 .x .some in
     omega (arith, cell-is c (g .nx - 1), number-lt (g .nx) (g .ny) (g .nz) (g .nx - 1) (m .rows .j) (o .scan .k) (omega (arith, some)) j k, some)
@@ -188,8 +185,8 @@ in-row c =
 -- a cell that is not filled is not looked for
 not-filled : (c : Row) (i : ℕ) → let m = rows-at c in let s = start (scan-of m) in let b = block s in
     isFilled (s .args .map .now) (c .cell-number .result + i) ≡ false
-    → No (s .args .map .now) (grid s .nx) (grid s .ny) (forms s) (b .x) (b .y) (b .z) i (m .rows .j) (scan-of m .scan .k)
-not-filled c i clear _ _ _ filled _ =
+    → No (s .args .map .now) (grid s .nx) (grid s .ny) (slabs s) (b .x) (b .y) (b .z) i (m .rows .j) (scan-of m .scan .k)
+not-filled c i clear _ _ _ filled _ _ =
     let s = start (scan-of (rows-at c)) in
     apart (ap (isFilled (s .args .map .now)) (cell-is c i) ∙ filled) clear
 
@@ -199,15 +196,15 @@ cells-holds c =
     let next = c .next-cell .ensures in
     (rows-at r .rows .inv .0, next .from, next .stopped, λ a l ha. not-filled r a (next .skipped a l (ha .0)) ha)
 
-may-overlap-requires : tie.Need-may-overlap-requires Inv-cells μ-cells Inv-rows μ-rows Inv-scan μ-scan
-may-overlap-requires c κs =
+touches-requires : tie.Need-touches-requires Inv-cells μ-cells Inv-rows μ-rows Inv-scan μ-scan
+touches-requires c κs =
     let l = c .before .before in
     let m = rows-of l in
     let s = start (scan-of m) in
     let i = i-in s (c .if3 .taken) in
-    let j = j-in s (j-at l) in
+    let j = j-in s (j-at l .0 .1) in
     let k = k-in s (k-at m) in
-    (s .pre .2, (omega arith, (omega arith, (omega arith, (omega arith, (omega arith, (omega arith, tt)))))))
+    (s .pre .2, omega arith, omega arith, omega arith)
 
 cells-again : tie.Need-cells-again Inv-cells μ-cells Inv-rows μ-rows Inv-scan μ-scan
 cells-again c =
@@ -219,27 +216,27 @@ cells-again c =
       l .cells .inv .0,
       omega (arith, next .from, l .cells .inv .1),
       next .stopped,
-      λ a u ha hj hk filled touched.
-          either (decLt a (l .cells .i)) (λ v. l .cells .inv .3 a v ha hj hk filled touched)
+      λ a u ha hj hk filled row touched.
+          either (decLt a (l .cells .i)) (λ v. l .cells .inv .3 a v ha hj hk filled row touched)
           (λ v.
-          either (decLt (l .cells .i) a) (λ w. not-filled r a (next .skipped a u (omega arith)) ha hj hk filled touched)
+          either (decLt (l .cells .i) a) (λ w. not-filled r a (next .skipped a u (omega arith)) ha hj hk filled row touched)
           (λ w.
           let same : a ≡ l .cells .i = omega arith in
-          apart (rw same at touched) (sym (t .may-overlap .ensures) ∙ e .if4 .left))),
+          apart (rw same at touched) (sym (t .touches .ensures) ∙ e .if4 .left))),
     )
 
 -- ---- the answers
 returns : tie.Need-returns Inv-cells μ-cells Inv-rows μ-rows Inv-scan μ-scan
-returns c t is picks =
+returns c p q is picks =
     let o = c .before .before in
     let s = start o in
     let a = s .args in
     let b = block s in
     o .scan .inv .0
-    ∙ sym (found-none (a .map .now) (grid s) (forms s) (b .x) (b .y) (b .z) t is picks (s .pre .0 .x .some) (s .pre .0 .y .some) (o .scan .k) (omega arith) (o .scan .inv .2))
+    ∙ sym (found-none (a .map .now) (grid s) (slabs s) (b .x) (b .y) (b .z) p q is picks (s .pre .0 .positive) (s .pre .0 .x .some) (s .pre .0 .y .some) (o .scan .k) (omega arith) (o .scan .inv .2))
 
 returns-2 : tie.Need-returns-2 Inv-cells μ-cells Inv-rows μ-rows Inv-scan μ-scan
-returns-2 c t is picks =
+returns-2 c p q is picks =
     let e = c .before in
     let l = e .before .before .before in
     let r = l .before .before in
@@ -251,11 +248,12 @@ returns-2 c t is picks =
     let i-at = e .before .if3 .taken in
     ap Cell (cell-is r (l .cells .i))
     ∙ sym
-    (found-at (a .map .now) (grid s) (forms s) (b .x) (b .y) (b .z) t is picks (s .pre .0 .x .some) (s .pre .0 .y .some)
+    (found-at (a .map .now) (grid s) (slabs s) (b .x) (b .y) (b .z) p q is picks (s .pre .0 .positive) (s .pre .0 .x .some) (s .pre .0 .y .some)
     (l .cells .i) (m .rows .j) (o .scan .k)
-    (l .cells .inv .1, i-at) (m .rows .inv .1, j-at l) (o .scan .inv .1, k-at m)
+    (l .cells .inv .1, i-at) (j-at l .0) (o .scan .inv .1, k-at m)
     (ap (isFilled (a .map .now)) (sym (cell-is r (l .cells .i))) ∙ l .cells .inv .2 i-at)
-    (sym (e .may-overlap .ensures) ∙ c .if4 .taken)
+    (j-at l .1)
+    (sym (e .touches .ensures) ∙ c .if4 .taken)
     (o .scan .inv .2) (m .rows .inv .2) (l .cells .inv .3))
 
 pub search-spec : {M : Type 1} → statement M
@@ -268,24 +266,23 @@ search-spec =
     μ-rows
     Inv-scan
     μ-scan
-    (λ c. (refl, omega arith, λ d l a b _ _ h _ _. omega (arith, h .0)))
-    next-row-requires
+    (λ c. (refl, omega arith, λ d l a b _ _ h _ _ _. omega (arith, h .0), omega arith, c .before .before .before .before .before .pre .3 .y-from))
+    rows-requires
     rows-holds
     cell-number-requires
     (λ c κs. let r = in-row c in (start (scan-of (rows-at c)) .pre .3 .x-from, r .0, r .1))
     cells-holds
-    may-overlap-requires
+    touches-requires
     (λ c. let l = c .before .before .before .before in omega (arith, in-row (l .before .before), c .before .before .if3 .taken))
     (λ c. let l = c .before .before .before .before in omega (arith, in-row (l .before .before), c .before .before .if3 .taken))
     (λ c κs. let r = in-row (c .before .before .before .before .before .before) in (omega (arith, c .before .before .if3 .taken), r .0, r .1))
     (λ c. omega (arith, c .next-cell2 .ensures .from, c .before .before .before .if3 .taken))
     cells-again
-    (λ c. search needs)
-    next-row-requires-2
-    (λ c. omega (arith, c .next-row2 .ensures .from, j-at (c .before .before .before)))
+    (λ c. omega (arith, j-in (start (scan-of (rows-of (c .before .before)))) (j-at (c .before .before) .0 .1)))
+    (λ c. omega (arith, c .before .before .before .before .before .if2 .taken))
     rows-again
-    (λ c. search needs)
-    (λ c. omega arith)
+    (λ c. omega (arith, k-in (start (scan-of (c .before .before))) (k-at (c .before .before))))
+    (λ c. omega (arith, k-at (c .before .before)))
     scan-again
     returns
     returns-2)

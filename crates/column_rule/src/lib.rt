@@ -1,0 +1,1 @@
+// Theorems about the columns of a grid and the overlap rule; no code.

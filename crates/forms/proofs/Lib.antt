@@ -1,0 +1,2 @@
+-- The size of the forms' numbers.
+pub mod Sizes

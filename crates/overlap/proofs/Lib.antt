@@ -1,0 +1,2 @@
+-- The least and the greatest value over a box's corners, as sums.
+pub mod Corners

@@ -1,0 +1,5 @@
+pub mod Geometry
+pub mod Rule
+pub mod Grid
+pub mod Vectors
+pub mod Bounds

@@ -1,0 +1,2 @@
+-- A range of cells from two quotients.
+pub mod Ranges
