@@ -77,8 +77,8 @@ pub fn frame(random: &mut Random, most: i64) -> Frame {
     with_steel(random, cells, edge, origin, triangles)
 }
 
-/// Plates along diagonals of the largest grid. A fill that halves the grid across its longest side, the lower half first,
-/// has as many blocks pending on each of them as it can have: 19.
+/// Plates along diagonals of the largest grid. Their boxes of cells are the whole grid, so that a fill has the most to
+/// halve.
 pub fn plates() -> Vec<Frame> {
     let far = 64 * 10;
     let corners = [
