@@ -19,7 +19,7 @@ use Rattle.forms.specs.Form.{edgeAt}
 use Rattle.runs.proofs.Narrow.{in-range}
 use Rattle.columns.specs.declared.Strides.{Strides}
 use Rattle.columns.specs.Draw.{drawn}
-use Rattle.columns.specs.Column.{uvValue, columnPasses, cellPasses}
+use Rattle.columns.specs.Column.{valueAt, columnPasses, cellPasses}
 use Rattle.columns.proofs.Drawing.{nothing}
 use Rattle.columns.proofs.Cells.{cell-fails}
 use Rattle.blocks.specs.declared.Block.{Block}
@@ -49,7 +49,7 @@ module _ (a : ℤ) (first end i : ℕ) (from : first ≤ i) (to : i < end) where
 
 -- ---- a column of a block
 module _ (l : List ℤ) (b : Block) (i j : ℕ) (inside : columnsOf b i j ≡ true) where
-  below : (m : ℕ) → uvValue l m (pos i) (pos j) ≤ℤ farValue l m b
+  below : (m : ℕ) → valueAt l m i j ≤ℤ farValue l m b
   below m =
       let f = edgeAt l m .uv in
       let (hu, hv) = and-eq-true-iff (inRange (uOf b) i) (inRange (vOf b) j) .0 inside in
@@ -58,14 +58,14 @@ module _ (l : List ℤ) (b : Block) (i j : ℕ) (inside : columnsOf b i j ≡ tr
       ≤-add (≤-add (far (f .a) (b .u0) (b .u1) i u0 u1) (far (f .b) (b .v0) (b .v1) j v0 v1)) (≤ℤ-refl (f .c))
 
   -- a value that is not negative is not below the far value
-  more : (m : ℕ) → leZ (pos 0) (uvValue l m (pos i) (pos j)) ≡ true → leZ (pos 0) (farValue l m b) ≡ true
-  more m e = true-le (pos 0) (farValue l m b) (≤-trans (le-true (pos 0) (uvValue l m (pos i) (pos j)) e) (below m))
+  more : (m : ℕ) → leZ (pos 0) (valueAt l m i j) ≡ true → leZ (pos 0) (farValue l m b) ≡ true
+  more m e = true-le (pos 0) (farValue l m b) (≤-trans (le-true (pos 0) (valueAt l m i j) e) (below m))
 
   kept : columnPasses l i j ≡ true → keptBy l b ≡ true
   unfolding keptBy
   kept e =
-      let (e01, e2) = and-eq-true-iff (leZ (pos 0) (uvValue l 0 (pos i) (pos j)) && leZ (pos 0) (uvValue l 1 (pos i) (pos j))) (leZ (pos 0) (uvValue l 2 (pos i) (pos j))) .0 e in
-      let (e0, e1) = and-eq-true-iff (leZ (pos 0) (uvValue l 0 (pos i) (pos j))) (leZ (pos 0) (uvValue l 1 (pos i) (pos j))) .0 e01 in
+      let (e01, e2) = and-eq-true-iff (leZ (pos 0) (valueAt l 0 i j) && leZ (pos 0) (valueAt l 1 i j)) (leZ (pos 0) (valueAt l 2 i j)) .0 e in
+      let (e0, e1) = and-eq-true-iff (leZ (pos 0) (valueAt l 0 i j)) (leZ (pos 0) (valueAt l 1 i j)) .0 e01 in
       λ d. more 0 e0 d && more 1 e1 d && more 2 e2 d
 
   fails : keptBy l b ≡ false → columnPasses l i j ≡ false

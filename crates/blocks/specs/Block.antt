@@ -9,10 +9,10 @@ use lib.Signed.{ltZ}
 use Rattle.ranges.specs.declared.BoxRange.{BoxRange}
 use Rattle.ranges.specs.declared.CellRange.{CellRange}
 use Rattle.forms.specs.Form.{edgeAt, BoundedForms}
+use Rattle.column_rule.specs.Column.{uvOf, squarePasses}
 use Rattle.pending.specs.Pending.{halvings}
 use Rattle.columns.specs.declared.Strides.{Strides}
 use Rattle.columns.specs.Draw.{Numbers, cellsOf, range, rectangle}
-use Rattle.columns.specs.Column.{uvValue, squarePasses}
 use Rattle.blocks.specs.declared.Block.{Block}
 
 -- ---- a block: its ranges on the two axes, and its columns
@@ -63,7 +63,7 @@ abbrev pub farEnd : ℤ → (first end : ℕ) → ℤ
 farEnd a first end = cond (ltZ a (pos 0)) (pos first) (pos end -ℤ pos 1)
 
 abbrev pub farValue : List ℤ → ℕ → Block → ℤ
-farValue l m b = uvValue l m (farEnd (edgeAt l m .uv .a) (b .u0) (b .u1)) (farEnd (edgeAt l m .uv .b) (b .v0) (b .v1))
+farValue l m b = uvOf (edgeAt l m) (farEnd (edgeAt l m .uv .a) (b .u0) (b .u1)) (farEnd (edgeAt l m .uv .b) (b .v0) (b .v1))
 
 unfoldable pub keptBy : List ℤ → Block → Bool
 keptBy l b = squarePasses (farValue l 0 b) (farValue l 1 b) (farValue l 2 b)

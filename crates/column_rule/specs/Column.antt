@@ -28,10 +28,18 @@ planePasses p u v = inSlab (p .w) (p .at +ℤ p .u *ℤ u +ℤ p .v *ℤ v) (p .
 abbrev pub edgePasses : Edge → (u v x : ℤ) → ℕ → Bool
 edgePasses e u v x k = leZ (e .inside) x || (passes (e .vw .b) (e .vw .a *ℤ v +ℤ e .vw .c) k && passes (e .wu .a) (e .wu .b *ℤ u +ℤ e .wu .c) k)
 
--- The edges' forms of uv, the plane, and each edge along the column.
+-- No edge rules out the column's square, by the values of the three edges' forms of uv there.
+abbrev pub squarePasses : (x0 x1 x2 : ℤ) → Bool
+squarePasses x0 x1 x2 = leZ (pos 0) x0 && leZ (pos 0) x1 && leZ (pos 0) x2
+
+-- Cell k of the column passes the plane and each edge.
+abbrev pub cellAlong : PlaneForm → (e0 e1 e2 : Edge) → (u v x0 x1 x2 : ℤ) → ℕ → Bool
+cellAlong p e0 e1 e2 u v x0 x1 x2 k = planePasses p u v k && edgePasses e0 u v x0 k && edgePasses e1 u v x1 k && edgePasses e2 u v x2 k
+
+-- The column's square, and its cell k.
 unfoldable pub columnTest : PlaneForm → (e0 e1 e2 : Edge) → (u v : ℤ) → ℕ → Bool
 columnTest p e0 e1 e2 u v k =
     let x0 = uvOf e0 u v in
     let x1 = uvOf e1 u v in
     let x2 = uvOf e2 u v in
-    (leZ (pos 0) x0 && leZ (pos 0) x1 && leZ (pos 0) x2) && (planePasses p u v k && edgePasses e0 u v x0 k && edgePasses e1 u v x1 k && edgePasses e2 u v x2 k)
+    squarePasses x0 x1 x2 && cellAlong p e0 e1 e2 u v x0 x1 x2 k

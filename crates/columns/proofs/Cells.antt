@@ -23,9 +23,10 @@ use Rattle.integers.proofs.Bounds.{within-add, within-mul, within-weaken}
 use Rattle.ranges.specs.declared.CellRange.{CellRange}
 use Rattle.ranges.specs.Range.{inRange}
 use Rattle.forms.specs.Form.{edgeAt, BoundedForm}
+use Rattle.column_rule.specs.Column.{uvOf, squarePasses}
 use Rattle.columns.specs.declared.Strides.{Strides}
 use Rattle.columns.specs.Draw.{oneColumn, rowOf, rectangle, range}
-use Rattle.columns.specs.Column.{uvValue, squarePasses, valueMax, columnPasses, cellPasses, runCells, DrawsColumns}
+use Rattle.columns.specs.Column.{valueAt, valueMax, columnPasses, cellPasses, runCells, DrawsColumns}
 use Rattle.columns.proofs.Drawing.{of-column, draws-nothing, draws-then, drawn-or}
 use Rattle.runs.proofs.Narrow.{same, in-range, range-in}
 
@@ -48,23 +49,23 @@ module _ (x0 x1 x2 : ℤ) where
   square-2 e f = λ i. positive x0 e i && positive x1 f i && leZ (pos 0) x2
 
 -- ---- an edge's value of a column, and of the next on u
-pub next-value : (l : List ℤ) (m a : ℕ) (v : ℤ) → uvValue l m (pos a) v +ℤ edgeAt l m .uv .a ≡ uvValue l m (pos (a + 1)) v
+pub next-value : (l : List ℤ) (m a : ℕ) (v : ℤ) → uvOf (edgeAt l m) (pos a) v +ℤ edgeAt l m .uv .a ≡ uvOf (edgeAt l m) (pos (a + 1)) v
 next-value l m a v =
     let f = edgeAt l m .uv in
     ring (f .a ∷ f .b ∷ f .c ∷ pos a ∷ v ∷ []) (var 0 ⊗ var 3 ⊕ var 1 ⊗ var 4 ⊕ var 2 ⊕ var 0) (var 0 ⊗ (var 3 ⊕ num 1) ⊕ var 1 ⊗ var 4 ⊕ var 2) tt
-    ∙ ap (λ (u : ℤ). uvValue l m u v) one-more
+    ∙ ap (λ (u : ℤ). uvOf (edgeAt l m) u v) one-more
   where
     one-more : pos a +ℤ pos 1 ≡ pos (a + 1)
     one-more = omega (zarith, +! (pos a) (pos 1))
 
-pub value-within : (l : List ℤ) (m i j : ℕ) → BoundedForm (edgeAt l m .uv) → i ≤ 64 → j ≤ 64 → Within valueMax (uvValue l m (pos i) (pos j))
+pub value-within : (l : List ℤ) (m i j : ℕ) → BoundedForm (edgeAt l m .uv) → i ≤ 64 → j ≤ 64 → Within valueMax (valueAt l m i j)
 value-within l m i j b hi hj =
     within-weaken (lit≤ tt) (within-add (within-add (within-mul (b .a) (record { within = hi })) (within-mul (b .b) (record { within = hj }))) (b .c))
 
 -- ---- a column that an edge rules out, and one that none rules out
 module _ (l : List ℤ) (w : CellRange) (i j : ℕ) where
   abbrev cells : ℕ → ℕ → ℕ → Bool
-  cells = runCells l w (pos i) (pos j) (uvValue l 0 (pos i) (pos j)) (uvValue l 1 (pos i) (pos j)) (uvValue l 2 (pos i) (pos j))
+  cells = runCells l w (pos i) (pos j) (valueAt l 0 i j) (valueAt l 1 i j) (valueAt l 2 i j)
 
   -- of the column's own cells
   cell-is : (c : Bool) → columnPasses l i j ≡ c → (k : ℕ) → cellPasses l w i j k ≡ (c && cells i j k)

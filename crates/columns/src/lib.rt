@@ -8,8 +8,9 @@ ghost use Rattle.integers.specs.Within.{Within};
 ghost use Rattle.overlap.specs.Bounds.{indexMax};
 ghost use Rattle.forms.specs.Form.{edgeAt, planeAt, BoundedEdge, BoundedPlane};
 ghost use Rattle.runs.specs.Run.{Narrows};
+ghost use Rattle.column_rule.specs.Column.{uvOf, planePasses, edgePasses, squarePasses};
 ghost use Rattle.columns.specs.Draw.{Draws, oneColumn, rowOf, rectangle, inRun, RunReady};
-ghost use Rattle.columns.specs.Column.{uvValue, planeAlong, edgeAlong, squarePasses, runCells, RunIn, valueMax, ColumnsReady, RowsIn, DrawsColumns};
+ghost use Rattle.columns.specs.Column.{runCells, RunIn, valueMax, ColumnsReady, RowsIn, DrawsColumns};
 
 // How a grid's cells are numbered, with its axes in some turn: how far apart the numbers of neighbours on each axis are, and how many cells
 // there are.
@@ -43,7 +44,7 @@ pub fn fill_run(map: &mut [u8], g: Strides, i: usize, j: usize, run: CellRange)
 // The form of edge m in the plane uv, at the column (u, v).
 fn edge_value(forms: &[i64; 35], m: usize, u: i64, v: i64) -> i64
     requires { ⌜ (m < 3) × BoundedEdge (edgeAt (now forms) m) × Within indexMax u × Within indexMax v ⌝ }
-    ensures { λ r. ⌜ (r ≡ uvValue (now (forms .entry)) m u v) × Within valueMax r ⌝ }
+    ensures { λ r. ⌜ (r ≡ uvOf (edgeAt (now (forms .entry)) m) u v) × Within valueMax r ⌝ }
 {
     let f = forms::uv(forms, m);
     f.a * u + f.b * v + f.c
@@ -52,7 +53,7 @@ fn edge_value(forms: &[i64; 35], m: usize, u: i64, v: i64) -> i64
 // The part of a run of column (u, v) that edge m passes, where x is its form there: all, where the column's square is inside of the edge.
 fn edge_run(run: CellRange, forms: &[i64; 35], m: usize, u: i64, v: i64, x: i64) -> CellRange
     requires { ⌜ (m < 3) × BoundedEdge (edgeAt (now forms) m) × RunIn run u v ⌝ }
-    ensures { λ r. ⌜ Narrows run (edgeAlong (now (forms .entry)) m u v x) r ⌝ }
+    ensures { λ r. ⌜ Narrows run (edgePasses (edgeAt (now (forms .entry)) m) u v x) r ⌝ }
 {
     if forms::inside(forms, m) <= x {
         return run;
@@ -66,7 +67,7 @@ fn edge_run(run: CellRange, forms: &[i64; 35], m: usize, u: i64, v: i64, x: i64)
 // The part of column (u, v) that the plane passes.
 fn plane_run(forms: &[i64; 35], w: CellRange, hint: usize, u: i64, v: i64) -> CellRange
     requires { ⌜ BoundedPlane (planeAt (now forms)) × RunIn w u v × (w .first ≤ hint) × (hint ≤ w .end) ⌝ }
-    ensures { λ r. ⌜ Narrows w (planeAlong (now (forms .entry)) u v) r ⌝ }
+    ensures { λ r. ⌜ Narrows w (planePasses (planeAt (now (forms .entry))) u v) r ⌝ }
 {
     let p = forms::plane(forms);
     runs::by_slab(w, hint, p.w, p.at + p.u * u + p.v * v, p.reach)

@@ -32,11 +32,11 @@ use Rattle.forms.specs.Form.{edgeAt, planeAt, insideMax, edgeSlopeMax, edgeMax,
 use Rattle.forms.specs.Triangle.{edgeBetween, planeForm, FormsFor}
 use Rattle.runs.proofs.Narrow.{same, in-range, range-in}
 use Rattle.reach.proofs.Row.{Stays, row-holds}
-use Rattle.column_rule.specs.Column.{formsHold, uvOf, columnTest}
+use Rattle.column_rule.specs.Column.{formsHold, uvOf, cellAlong, columnTest}
 use Rattle.column_rule.proofs.Law.{rule-parts, column-law}
 use Rattle.columns.specs.declared.Strides.{Strides}
 use Rattle.columns.specs.Draw.{uOf, vOf, wOf, cellsOf, drawn, Draws, oneColumn, inRun, rectangle}
-use Rattle.columns.specs.Column.{uvValue, columnPasses, cellAlong, cellPasses}
+use Rattle.columns.specs.Column.{valueAt, columnPasses, cellPasses}
 use Rattle.columns.proofs.Drawing.{strides}
 use Rattle.columns.proofs.Lattices.{along-z, x-is, z-is}
 use Rattle.grid.specs.Cells.{xOfCell, yOfCell, zOfCell}
@@ -108,7 +108,7 @@ module _ {g : Strides} {t : Triangle} {l : Lattice} {r : BoxRange} {cells : ℕ}
         let mi : i ≤ 64 = omega (arith, n .nu-most) in
         let mj : j ≤ 64 = omega (arith, n .nv-most) in
         rearrange (rectangle (r .x) (r .y) i j) (inRange (r .z) k) (columnPasses forms i j)
-        (cellAlong forms (pos i) (pos j) (uvValue forms 0 (pos i) (pos j)) (uvValue forms 1 (pos i) (pos j)) (uvValue forms 2 (pos i) (pos j)) k)
+        (cellAlong (planeAt forms) (edgeAt forms 0) (edgeAt forms 1) (edgeAt forms 2) (pos i) (pos j) (valueAt forms 0 i j) (valueAt forms 1 i j) (valueAt forms 2 i j) k)
         ∙ ap (λ (c : Bool). inRange (r .x) i && inRange (r .y) j && inRange (r .z) k && c)
         ((λ q. columnTest (made .plane q) (made .e0 q) (made .e1 q) (made .e2 q) (pos i) (pos j) k)
         ∙ sym (column-law t l positive i j k (small (made .e0) (b .e0) i j mi mj) (small (made .e1) (b .e1) i j mi mj) (small (made .e2) (b .e2) i j mi mj)))

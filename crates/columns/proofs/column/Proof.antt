@@ -10,10 +10,12 @@ use mir.Val.{toZ, ofZ}
 use mir.Facts.{toZ-ofZ}
 use Rattle.integers.proofs.Machine.{back}
 use Rattle.ranges.specs.declared.CellRange.{CellRange}
+use Rattle.forms.specs.Form.{edgeAt, planeAt}
 use Rattle.runs.specs.Run.{Narrows}
 use Rattle.runs.proofs.Narrow.{by-both}
+use Rattle.column_rule.specs.Column.{planePasses, edgePasses, cellAlong}
 use Rattle.columns.specs.Draw.{oneColumn, inRun}
-use Rattle.columns.specs.Column.{planeAlong, edgeAlong, cellAlong, runCells, RunIn}
+use Rattle.columns.specs.Column.{runCells, RunIn}
 use Rattle.columns.proofs.Drawing.{draws-same, drawn-on}
 use Rattle.columns.proofs.column.Statement.{statement}
 use Rattle.columns.proofs.column.Tie as tie
@@ -54,16 +56,16 @@ module _ (c : tie.After-from-index2) where
         v-in = rw v-is (record { within = omega (arith, p .2, p .0 .numbers .nv-most) });
       }
 
-  by-edge : {run r : CellRange} (e : ℕ) (x : ℤ) → m x ≡ x → Narrows run (edgeAlong l e u v (m x)) r
-      → Narrows run (edgeAlong l e (pos (start c .args .i)) (pos (start c .args .j)) x) r
-  by-edge {run} {r} e x h n = subst (λ p. Narrows run p r) (λ i. edgeAlong l e (u-is i) (v-is i) (h i)) n
+  by-edge : {run r : CellRange} (e : ℕ) (x : ℤ) → m x ≡ x → Narrows run (edgePasses (edgeAt l e) u v (m x)) r
+      → Narrows run (edgePasses (edgeAt l e) (pos (start c .args .i)) (pos (start c .args .j)) x) r
+  by-edge {run} {r} e x h n = subst (λ p. Narrows run p r) (λ i. edgePasses (edgeAt l e) (u-is i) (v-is i) (h i)) n
 
-by-plane : (c : tie.After-plane-run) → let n = c .before in let a = start n .args in Narrows (w n) (planeAlong (l n) (pos (a .i)) (pos (a .j))) (c .plane-run .result)
-by-plane c = let n = c .before in subst (λ p. Narrows (w n) p (c .plane-run .result)) (λ i. planeAlong (l n) (u-is n i) (v-is n i)) (c .plane-run .ensures)
+by-plane : (c : tie.After-plane-run) → let n = c .before in let a = start n .args in Narrows (w n) (planePasses (planeAt (l n)) (pos (a .i)) (pos (a .j))) (c .plane-run .result)
+by-plane c = let n = c .before in subst (λ p. Narrows (w n) p (c .plane-run .result)) (λ i. planePasses (planeAt (l n)) (u-is n i) (v-is n i)) (c .plane-run .ensures)
 
 -- the run, which the plane and the edges leave
 the-run : (c : tie.After-edge-run3) → let n = c .before .before .before .before in let a = start n .args in
-    Narrows (w n) (cellAlong (l n) (pos (a .i)) (pos (a .j)) (a .x0) (a .x1) (a .x2)) (c .edge-run3 .result)
+    Narrows (w n) (cellAlong (planeAt (l n)) (edgeAt (l n) 0) (edgeAt (l n) 1) (edgeAt (l n) 2) (pos (a .i)) (pos (a .j)) (a .x0) (a .x1) (a .x2)) (c .edge-run3 .result)
 the-run c =
     let e2 = c .before in
     let e1 = e2 .before in

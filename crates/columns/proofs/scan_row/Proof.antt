@@ -16,8 +16,9 @@ use Rattle.integers.proofs.Machine.{asks, run, back, cases}
 use Rattle.overlap.specs.Bounds.{indexMax}
 use Rattle.ranges.specs.Range.{inRange}
 use Rattle.forms.specs.Form.{edgeAt, edgeSlopeMax, BoundedForm}
+use Rattle.column_rule.specs.Column.{uvOf, squarePasses}
 use Rattle.columns.specs.Draw.{oneColumn, rowOf, range}
-use Rattle.columns.specs.Column.{uvValue, valueMax, squarePasses, columnPasses, runCells, cellPasses, ColumnsReady, DrawsColumns}
+use Rattle.columns.specs.Column.{valueAt, valueMax, columnPasses, runCells, cellPasses, ColumnsReady, DrawsColumns}
 use Rattle.columns.proofs.Drawing.{draws-same, draws-nothing, drawn-on}
 use Rattle.columns.proofs.Cells.{next-value, value-within, ruled-out, let-in, no-range, no-columns, more-columns, row-more}
 use Rattle.columns.proofs.scan_row.Statement.{statement}
@@ -25,15 +26,15 @@ use Rattle.columns.proofs.scan_row.Tie as tie
 
 abbrev Inv-loop : tie.InvT-loop
 Inv-loop map₀ forms g w j hint end a₀ p q x0₀ x1₀ x2₀ near₀ map a x0 x1 x2 near =
-    (a₀ ≤ a) × (a ≤ end) × DrawsColumns forms g w (rowOf (range a₀ a) j) map₀ map near × (toZ w64 x0 ≡ uvValue forms 0 (pos a) (pos j))
-    × (toZ w64 x1 ≡ uvValue forms 1 (pos a) (pos j)) × (toZ w64 x2 ≡ uvValue forms 2 (pos a) (pos j))
+    (a₀ ≤ a) × (a ≤ end) × DrawsColumns forms g w (rowOf (range a₀ a) j) map₀ map near × (toZ w64 x0 ≡ valueAt forms 0 a j)
+    × (toZ w64 x1 ≡ valueAt forms 1 a j) × (toZ w64 x2 ≡ valueAt forms 2 a j)
 
 abbrev μ-loop : tie.MeasureT-loop
 μ-loop map₀ forms g w j hint end a₀ p q x0₀ x1₀ x2₀ near₀ map a x0 x1 x2 near = end - a
 
 -- ---- an edge's value x of column (a, j), and what takes it to the next
 record Step (l : List ℤ) (m a j : ℕ) (x s : ℤ) : Type 0 where
-  is : x ≡ uvValue l m (pos a) (pos j)
+  is : x ≡ valueAt l m a j
   step : s ≡ edgeAt l m .uv .a
   form : BoundedForm (edgeAt l m .uv)
   a-most : a ≤ 64
@@ -46,7 +47,7 @@ module _ {l : List ℤ} {m a j : ℕ} {x s : ℤ} (h : Step l m a j x s) where
   fits : SFits w64 (x +ℤ toZ w64 (ofZ w64 s))
   fits = asks (x ∷ s ∷ []) (raw 0 ⊕ var 1) (valueMax ∷ edgeSlopeMax ∷ []) tt ins .2
 
-  stepped : toZ w64 (ofZ w64 (x +ℤ toZ w64 (ofZ w64 s))) ≡ uvValue l m (pos (a + 1)) (pos j)
+  stepped : toZ w64 (ofZ w64 (x +ℤ toZ w64 (ofZ w64 s))) ≡ valueAt l m (a + 1) j
   stepped = run (x ∷ s ∷ []) (raw 0 ⊕ var 1) (valueMax ∷ edgeSlopeMax ∷ []) tt ins ∙ (λ i. h .is i +ℤ h .step i) ∙ next-value l m a (pos j)
 
 -- ---- the first column's numbers
@@ -66,9 +67,9 @@ module _ (c : tie.After-from-index2 Inv-loop μ-loop) where
   v-in : Within indexMax (toZ w64 (ofZ w64 (c .from-index2 .result)))
   v-in = let p = begin c .pre in rw v-is (record { within = omega (arith, p .2, p .0 .numbers .nv-most) })
 
-  value-is : (m : ℕ) {x : ℤ} → x ≡ uvValue (begin c .args .forms .now) m (toZ w64 (ofZ w64 (c .before .from-index .result))) (toZ w64 (ofZ w64 (c .from-index2 .result)))
-      → x ≡ uvValue (begin c .args .forms .now) m (pos (begin c .args .u .first)) (pos (begin c .args .j))
-  value-is m e = e ∙ (λ i. uvValue (begin c .args .forms .now) m (u-is i) (v-is i))
+  value-is : (m : ℕ) {x : ℤ} → x ≡ uvOf (edgeAt (begin c .args .forms .now) m) (toZ w64 (ofZ w64 (c .before .from-index .result))) (toZ w64 (ofZ w64 (c .from-index2 .result)))
+      → x ≡ valueAt (begin c .args .forms .now) m (begin c .args .u .first) (begin c .args .j)
+  value-is m e = e ∙ (λ i. uvOf (edgeAt (begin c .args .forms .now) m) (u-is i) (v-is i))
 
 loop-holds : tie.Need-loop-holds Inv-loop μ-loop
 loop-holds c =
