@@ -2,7 +2,7 @@
 use mathlib.Core.List.{List}
 use Prim.Native.Nat.{ℕ}
 use Rattle.overlap.specs.Geometry.{Triangle}
-use Rattle.triangles.specs.declared.Lattice.{Lattice}
+use Rattle.placed.specs.declared.Lattice.{Lattice}
 use Rattle.triangles.specs.Add.{Adds}
 use Rattle.frame.specs.declared.Header.{Header}
 use Rattle.fill.specs.Steel.{gridAt, cellCount, filledBy}

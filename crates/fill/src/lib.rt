@@ -7,7 +7,7 @@ use frame::Limit;
 use frame::Position;
 use frame::Triangle;
 use overlap::Vector;
-use triangles::Lattice;
+use placed::Lattice;
 ghost use mathlib.Core.Path.{_≡_};
 ghost use Prim.Native.Nat.{_*_, _≤_};
 ghost use lib.ListN.{length};

@@ -42,7 +42,7 @@ use Rattle.columns.proofs.Lattices.{along-z, x-is, z-is}
 use Rattle.grid.specs.Cells.{xOfCell, yOfCell, zOfCell}
 use Rattle.grid.specs.Map.{isFilled}
 use Rattle.triangles.specs.Add.{overlapsCell, Adds}
-use Rattle.triangles.specs.Placed.{View}
+use Rattle.triangles.specs.View.{View}
 use Rattle.triangles.proofs.Views.{places}
 
 -- ---- a grid's cells as they are numbered

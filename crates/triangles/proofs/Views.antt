@@ -17,8 +17,8 @@ use Rattle.column_rule.specs.Turn.{turnTriangle, turnLattice, turnBox}
 use Rattle.column_rule.proofs.Turns.{turn-rule, turn-picks}
 use Rattle.columns.specs.declared.Strides.{Strides}
 use Rattle.columns.specs.Draw.{numberOf, uOf, vOf, wOf, cellsOf, Numbers}
-use Rattle.triangles.specs.Box.{turnStrides}
-use Rattle.triangles.specs.Placed.{View}
+use Rattle.placed.specs.Lattice.{turnStrides}
+use Rattle.triangles.specs.View.{View}
 
 -- ---- the numbers
 pub cells-turned : (a b c : ℕ) → b * c * a ≡ a * b * c

@@ -33,11 +33,14 @@ use Rattle.columns.specs.declared.Strides.{Strides}
 use Rattle.columns.specs.Draw.{cellsOf, Numbers, Draws, oneColumn, inRun, rectangle}
 use Rattle.columns.specs.Column.{cellPasses}
 use Rattle.blocks.specs.Block.{Side}
-use Rattle.triangles.specs.declared.Lattice.{Lattice}
-use Rattle.triangles.specs.declared.Placed.{Placed}
-use Rattle.triangles.specs.Add.{boxesOf, cellsIn, overlapsCell, AddsTriangle, Ready}
-use Rattle.triangles.specs.Box.{stridesOf, turnStrides, isEmpty, isOne, One, BoxReady}
-use Rattle.triangles.specs.Placed.{View, PlacedReady, PlacedAdds, PlacedFor, TurnedFrom, cornersOf, latticeAt}
+use Rattle.placed.specs.declared.Lattice.{Lattice}
+use Rattle.placed.specs.declared.Placed.{Placed}
+use Rattle.placed.specs.Lattice.{boxesOf, cellsIn, stridesOf, turnStrides}
+use Rattle.placed.specs.Box.{stays, rowAxis}
+use Rattle.placed.specs.Placed.{PlacedFor, TurnedFrom, cornersOf}
+use Rattle.placed.proofs.Rows.{along-x, along-y, along-z}
+use Rattle.triangles.specs.Add.{overlapsCell, AddsTriangle, Ready, BoxReady}
+use Rattle.triangles.specs.View.{View, PlacedReady, PlacedAdds, latticeAt}
 use Rattle.triangles.proofs.Views.{turn-view, turn-numbers, cells-turned}
 use Rattle.triangles.proofs.Adding.{view-z, adds-columns, adds-row}
 
@@ -117,7 +120,7 @@ module _ (g : Lattice) {bytes : ℕ} (ready : Ready g bytes) where
 
   -- ---- a row
   -- on an axis, the range has one cell, and the coordinates lie within its box
-  on-axis : (t : Triangle) (r : CellRange) (o : ℤ) (a : Axis) → One g t r o a
+  on-axis : (t : Triangle) (r : CellRange) (o : ℤ) (a : Axis) → stays g t r o a ≡ true
       → (r .end ≡ r .first + 1) × ((o +ℤ pos (r .first) *ℤ g .step) ≤ℤ least3 a t) × (greatest3 a t ≤ℤ (o +ℤ pos (r .first) *ℤ g .step +ℤ g .extent))
   on-axis t r o a e =
       let begin = o +ℤ pos (r .first) *ℤ g .step in
@@ -126,23 +129,35 @@ module _ (g : Lattice) {bytes : ℕ} (ready : Ready g bytes) where
       (eqb-true _ _ q, le-true _ _ k, le-true _ _ h)
 
   module _ {t : Triangle} {b : BoxRange} (p : PicksBox t l (g .nx) (g .ny) (g .nz) b) where
-    pub row-z : {old new : List ℕ} → One g t (b .x) (g .x) xOf × One g t (b .y) (g .y) yOf
+    abbrev in-x : Bool
+    in-x = stays g t (b .x) (g .x) xOf
+
+    abbrev in-y : Bool
+    in-y = stays g t (b .y) (g .y) yOf
+
+    abbrev in-z : Bool
+    in-z = stays g t (b .z) (g .z) zOf
+
+    pub row-z : {r : ℕ} {old new : List ℕ} → r ≡ rowAxis g b t → r ≡ 3
         → Draws (stridesOf g) (oneColumn (b .x .first) (b .y .first)) (inRun (b .z)) old new → AddsTriangle g t old new
-    row-z (u, v) =
+    row-z h e =
+        let (u, v) = along-z in-x in-y in-z (sym h ∙ e) in
         let (eu, lu, hu) = on-axis t (b .x) (g .x) xOf u in
         let (ev, lv, hv) = on-axis t (b .y) (g .y) yOf v in
         adds-row (view p) (ready .thick) eu ev (record { from = lu; to = hu }) (record { from = lv; to = hv })
 
-    pub row-x : {old new : List ℕ} → One g t (b .y) (g .y) yOf × One g t (b .z) (g .z) zOf
+    pub row-x : {r : ℕ} {old new : List ℕ} → r ≡ rowAxis g b t → r ≡ 1
         → Draws (turnStrides (stridesOf g)) (oneColumn (b .y .first) (b .z .first)) (inRun (b .x)) old new → AddsTriangle g t old new
-    row-x (u, v) =
+    row-x h e =
+        let (u, v) = along-x in-x in-y in-z (sym h ∙ e) in
         let (eu, lu, hu) = on-axis t (b .y) (g .y) yOf u in
         let (ev, lv, hv) = on-axis t (b .z) (g .z) zOf v in
         adds-row (turn-view (view p)) (ready .thick) eu ev (record { from = lu; to = hu }) (record { from = lv; to = hv })
 
-    pub row-y : {old new : List ℕ} → One g t (b .z) (g .z) zOf × One g t (b .x) (g .x) xOf
+    pub row-y : {r : ℕ} {old new : List ℕ} → r ≡ rowAxis g b t → r ≡ 2
         → Draws (turnStrides (turnStrides (stridesOf g))) (oneColumn (b .z .first) (b .x .first)) (inRun (b .y)) old new → AddsTriangle g t old new
-    row-y (u, v) =
+    row-y h e =
+        let (u, v) = along-y in-x in-y in-z (sym h ∙ e) in
         let (eu, lu, hu) = on-axis t (b .z) (g .z) zOf u in
         let (ev, lv, hv) = on-axis t (b .x) (g .x) xOf v in
         adds-row (turn-view (turn-view (view p))) (ready .thick) eu ev (record { from = lu; to = hu }) (record { from = lv; to = hv })

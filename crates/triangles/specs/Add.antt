@@ -7,22 +7,17 @@ use lib.Dec.{ltb}
 use lib.IntN.{ℤ, pos}
 use lib.ListN.{length}
 use lib.Signed.{_≤ℤ_}
-use Rattle.overlap.specs.Geometry.{point, cube, Triangle}
+use Rattle.overlap.specs.Geometry.{cube, Triangle}
 use Rattle.overlap.specs.Grid as overlap
 use Rattle.overlap.specs.Grid.{boxCorner}
 use Rattle.overlap.specs.Rule.{overlapsBox}
 use Rattle.ranges.specs.Range.{BoundedLattice}
+use Rattle.ranges.specs.declared.BoxRange.{BoxRange}
+use Rattle.blocks.specs.Block.{Side}
 use Rattle.grid.specs.Cells.{xOfCell, yOfCell, zOfCell}
 use Rattle.grid.specs.Map.{isFilled}
-use Rattle.triangles.specs.declared.Lattice.{Lattice}
-
--- The boxes of the code's lattice.
-abbrev pub boxesOf : Lattice → overlap.Lattice
-boxesOf g = record { first = point (g .x) (g .y) (g .z); step = g .step; extent = g .extent }
-
--- How many cells it has.
-abbrev pub cellsIn : Lattice → ℕ
-cellsIn g = g .nx * g .ny * g .nz
+use Rattle.placed.specs.declared.Lattice.{Lattice}
+use Rattle.placed.specs.Lattice.{boxesOf, cellsIn}
 
 -- The triangle overlaps the box of cell n, in a grid with nx × ny cells in a layer.
 abbrev pub overlapsCell : (nx ny : ℕ) → overlap.Lattice → Triangle → ℕ → Bool
@@ -46,3 +41,10 @@ pub record Ready (g : Lattice) (bytes : ℕ) : Type 0 where
   pub boxes : BoundedLattice (boxesOf g)
   pub thick : pos 0 ≤ℤ g .extent
   pub room : cellsIn g ≤ 8 * bytes
+
+-- A lattice that a triangle can be filled into, and a box of its cells that is not empty.
+pub record BoxReady (g : Lattice) (bytes : ℕ) (b : BoxRange) : Type 0 where
+  pub lattice : Ready g bytes
+  pub x : Side (g .nx) (b .x)
+  pub y : Side (g .ny) (b .y)
+  pub z : Side (g .nz) (b .z)

@@ -1,3 +1,2 @@
 pub mod Add
-pub mod Box
-pub mod Placed
+pub mod View

@@ -14,8 +14,9 @@ use Rattle.frame.proofs.Bounds.{version1-usable}
 use Rattle.overlap.specs.Geometry.{Triangle}
 use Rattle.overlap.specs.Rule.{overlaps}
 use Rattle.grid.specs.Map.{tabulate}
-use Rattle.triangles.specs.declared.Lattice.{Lattice}
-use Rattle.triangles.specs.Add.{boxesOf, cellsIn, overlapsCell, Adds, AddsTriangle}
+use Rattle.placed.specs.declared.Lattice.{Lattice}
+use Rattle.placed.specs.Lattice.{boxesOf, cellsIn}
+use Rattle.triangles.specs.Add.{overlapsCell, Adds, AddsTriangle}
 use Rattle.fill.specs.Steel.{triangleAt, anyOf, steel}
 use Rattle.fill.proofs.Ready.{ready-lattice, triangle-bounded}
 use Rattle.fill.proofs.Triangles.{adds-none, adds-more}

@@ -9,7 +9,7 @@ use Rattle.ranges.specs.declared.CellRange.{CellRange}
 use Rattle.columns.specs.declared.Strides.{Strides}
 use Rattle.columns.specs.Draw.{cellsOf, Numbers, Draws, oneColumn, inRun, RunReady}
 use Rattle.blocks.specs.Block.{Side}
-use Rattle.triangles.specs.Box.{stridesOf, turnStrides}
+use Rattle.placed.specs.Lattice.{stridesOf, turnStrides}
 use Rattle.triangles.proofs.Views.{turn-numbers, cells-turned}
 use Rattle.triangles.proofs.Ways.{view, row-x, row-y, row-z}
 use Rattle.triangles.proofs.fill_box.Statement.{statement}
@@ -58,7 +58,7 @@ returns c =
     let t = f .before .before in
     let r = t .before .before in
     let s = start r in
-    row-z (s .args .g) (s .pre .0 .lattice) (s .pre .2) (t .before .row-axis .ensures .along-z (t .if1 .taken)) (drawn (s .args .b .x .first) (s .args .b .y .first) (s .args .b .z) (r .strides .ensures) (f .fill-run .ensures))
+    row-z (s .args .g) (s .pre .0 .lattice) (s .pre .2) (t .before .row-axis .ensures) (t .if1 .taken) (drawn (s .args .b .x .first) (s .args .b .y .first) (s .args .b .z) (r .strides .ensures) (f .fill-run .ensures))
 
 returns-2 : tie.Need-returns-2
 returns-2 c =
@@ -67,7 +67,7 @@ returns-2 c =
     let t = u .before .before in
     let a = t .before .before in
     let s = start (a .before) in
-    row-x (s .args .g) (s .pre .0 .lattice) (s .pre .2) (a .row-axis .ensures .along-x (t .if2 .taken)) (drawn (s .args .b .y .first) (s .args .b .z .first) (s .args .b .x) (turn-x u) (f .fill-run2 .ensures))
+    row-x (s .args .g) (s .pre .0 .lattice) (s .pre .2) (a .row-axis .ensures) (t .if2 .taken) (drawn (s .args .b .y .first) (s .args .b .z .first) (s .args .b .x) (turn-x u) (f .fill-run2 .ensures))
 
 returns-3 : tie.Need-returns-3
 returns-3 c =
@@ -76,7 +76,7 @@ returns-3 c =
     let t = u .before .before .before in
     let a = t .before .before .before in
     let s = start (a .before) in
-    row-y (s .args .g) (s .pre .0 .lattice) (s .pre .2) (a .row-axis .ensures .along-y (t .if3 .taken)) (drawn (s .args .b .z .first) (s .args .b .x .first) (s .args .b .y) (turn-y u) (f .fill-run3 .ensures))
+    row-y (s .args .g) (s .pre .0 .lattice) (s .pre .2) (a .row-axis .ensures) (t .if3 .taken) (drawn (s .args .b .z .first) (s .args .b .x .first) (s .args .b .y) (turn-y u) (f .fill-run3 .ensures))
 
 pub fill-box-spec : {M : Type 1} → statement M
 fill-box-spec =

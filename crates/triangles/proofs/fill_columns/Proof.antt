@@ -16,8 +16,8 @@ use Rattle.integers.proofs.Machine.{bounded}
 use Rattle.overlap.specs.Bounds.{normalMax, each, PointWithin}
 use Rattle.overlap.specs.Vectors.{pointOf}
 use Rattle.forms.proofs.Sizes.{normal-within}
-use Rattle.triangles.specs.declared.Placed.{Placed}
-use Rattle.triangles.specs.Placed.{PlacedReady, PlacedAdds}
+use Rattle.placed.specs.declared.Placed.{Placed}
+use Rattle.triangles.specs.View.{PlacedReady, PlacedAdds}
 use Rattle.triangles.proofs.Ways.{placed-ready, placed-adds, ready-turned, adds-turned}
 use Rattle.triangles.proofs.fill_columns.Statement.{statement}
 use Rattle.triangles.proofs.fill_columns.Tie as tie

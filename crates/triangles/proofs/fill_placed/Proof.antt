@@ -6,7 +6,7 @@ use mir.Syntax.{w64}
 use mir.Val.{toZ, ofZ}
 use mir.Facts.{toZ-ofZ}
 use Rattle.forms.specs.Triangle.{FormsFor}
-use Rattle.triangles.specs.Placed.{cornersOf}
+use Rattle.placed.specs.Placed.{cornersOf}
 use Rattle.triangles.proofs.Ways.{placed-columns}
 use Rattle.triangles.proofs.fill_placed.Statement.{statement}
 use Rattle.triangles.proofs.fill_placed.Tie as tie

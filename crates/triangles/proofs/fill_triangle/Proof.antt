@@ -19,8 +19,8 @@ use Rattle.ranges.specs.declared.CellRange.{CellRange}
 use Rattle.ranges.specs.Range.{inRange, PicksBox, latticeOf, BoundedLattice}
 use Rattle.runs.proofs.Narrow.{in-range}
 use Rattle.blocks.specs.Block.{Side}
-use Rattle.triangles.specs.Add.{boxesOf}
-use Rattle.triangles.specs.Box.{isEmpty}
+use Rattle.placed.specs.Lattice.{boxesOf}
+use Rattle.placed.specs.Box.{isEmpty}
 use Rattle.triangles.proofs.Adding.{adds-nothing}
 use Rattle.triangles.proofs.Ways.{view}
 use Rattle.triangles.proofs.fill_triangle.Statement.{statement}

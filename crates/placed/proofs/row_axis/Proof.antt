@@ -1,20 +1,19 @@
--- `triangles::row_axis` meets its contract: each axis is tested, and two tests that hold name the third. Assumes nothing.
+-- `placed::row_axis` meets its contract: each axis is tested, and two tests that hold name the third. Assumes nothing.
 use mathlib.Core.List.{List, [], _∷_}
-use mathlib.Core.Bool.{Bool, true}
-use mathlib.Core.Path.{_≡_, sym, _∙_}
+use mathlib.Core.Bool.{Bool}
+use mathlib.Core.Path.{_≡_, refl, sym, _∙_}
 use Prim.Native.Nat.{ℕ, _<_}
-use native.Mathlib.Omega.{arith}
 use lib.IntN.{ℤ}
 use Rattle.integers.specs.Within.{Withins}
 use Rattle.integers.proofs.Expr.{Expr, var, nth}
 use Rattle.integers.proofs.Machine.{machs, bounded, learnt}
-use Rattle.overlap.specs.Geometry.{Axis, xOf, yOf, zOf}
+use Rattle.overlap.specs.Geometry.{Triangle, Axis, xOf, yOf, zOf}
 use Rattle.overlap.specs.Vectors.{pointOf, triangleOf}
 use Rattle.ranges.specs.declared.CellRange.{CellRange}
-use Rattle.triangles.specs.Add.{boxesOf}
-use Rattle.triangles.specs.Box.{isOne, oneBounds, One}
-use Rattle.triangles.proofs.row_axis.Statement.{statement}
-use Rattle.triangles.proofs.row_axis.Tie as tie
+use Rattle.placed.specs.Lattice.{boxesOf}
+use Rattle.placed.specs.Box.{isOne, oneBounds, stays, axisOf, rowAxis}
+use Rattle.placed.proofs.row_axis.Statement.{statement}
+use Rattle.placed.proofs.row_axis.Tie as tie
 
 -- the numbers of an axis
 abbrev ρ : tie.Start → Axis → List ℤ
@@ -58,17 +57,20 @@ module _ (c : tie.After-is-one3) where
   abbrev s : tie.Start
   s = at0 (y .before)
 
-  abbrev one : CellRange → ℤ → Axis → Type 0
-  one r o a = let g = s .args in One (g .g) (triangleOf (g .v0) (g .v1) (g .v2)) r o a
+  abbrev t : Triangle
+  t = triangleOf (s .args .v0) (s .args .v1) (s .args .v2)
 
-  in-x : c .is-one3 .result ≡ true → one (s .args .b .x) (s .args .g .x) xOf
-  in-x h = sym (learnt (ρ s xOf) (Says (s .args .b .x) (c .is-one3 .result)) es oneBounds tt (ins-x s) (c .is-one3 .ensures)) ∙ h
+  in-x : {b : Bool} → c .is-one3 .result ≡ b → b ≡ stays (s .args .g) t (s .args .b .x) (s .args .g .x) xOf
+  in-x h = sym h ∙ learnt (ρ s xOf) (Says (s .args .b .x) (c .is-one3 .result)) es oneBounds tt (ins-x s) (c .is-one3 .ensures)
 
-  in-y : y .is-one .result ≡ true → one (s .args .b .y) (s .args .g .y) yOf
-  in-y h = sym (learnt (ρ s yOf) (Says (s .args .b .y) (y .is-one .result)) es oneBounds tt (ins-y s) (y .is-one .ensures)) ∙ h
+  in-y : {b : Bool} → y .is-one .result ≡ b → b ≡ stays (s .args .g) t (s .args .b .y) (s .args .g .y) yOf
+  in-y h = sym h ∙ learnt (ρ s yOf) (Says (s .args .b .y) (y .is-one .result)) es oneBounds tt (ins-y s) (y .is-one .ensures)
 
-  in-z : z .is-one2 .result ≡ true → one (s .args .b .z) (s .args .g .z) zOf
-  in-z h = sym (learnt (ρ s zOf) (Says (s .args .b .z) (z .is-one2 .result)) es oneBounds tt (ins-z s) (z .is-one2 .ensures)) ∙ h
+  in-z : {b : Bool} → z .is-one2 .result ≡ b → b ≡ stays (s .args .g) t (s .args .b .z) (s .args .g .z) zOf
+  in-z h = sym h ∙ learnt (ρ s zOf) (Says (s .args .b .z) (z .is-one2 .result)) es oneBounds tt (ins-z s) (z .is-one2 .ensures)
+
+  abbrev in-axes : {b d e : Bool} → c .is-one3 .result ≡ b → y .is-one .result ≡ d → z .is-one2 .result ≡ e → axisOf b d e ≡ rowAxis (s .args .g) (s .args .b) t
+  in-axes f g h = λ i. axisOf (in-x f i) (in-y g i) (in-z h i)
 
 pub row-axis-spec : {M : Type 1} → statement M
 row-axis-spec =
@@ -77,12 +79,9 @@ row-axis-spec =
     (λ c κs. let s = at0 c in asks (ρ s yOf) (s .args .b .y) (ins-y s) (s .pre .0 .y))
     (λ c κs. let s = at0 (at1 c .before) in asks (ρ s zOf) (s .args .b .z) (ins-z s) (s .pre .0 .z))
     (λ c κs. let s = at0 (at1 (at2 c .before) .before) in asks (ρ s xOf) (s .args .b .x) (ins-x s) (s .pre .0 .x))
-    (λ c. let d = c .before .before in
-    record { along-x = λ e. absurd (omega arith); along-y = λ e. absurd (omega arith); along-z = λ e. (in-x d (c .before .if1 .taken), in-y d (c .if2 .taken)) })
-    (λ c. let d = c .before .before .before in
-    record { along-x = λ e. absurd (omega arith); along-y = λ e. (in-z d (c .if3 .taken), in-x d (c .before .before .if1 .taken)); along-z = λ e. absurd (omega arith) })
-    (λ c. record { along-x = λ e. absurd (omega arith); along-y = λ e. absurd (omega arith); along-z = λ e. absurd (omega arith) })
-    (λ c. let d = c .before .before .before in
-    record { along-x = λ e. (in-y d (c .before .if4 .taken), in-z d (c .if5 .taken)); along-y = λ e. absurd (omega arith); along-z = λ e. absurd (omega arith) })
-    (λ c. record { along-x = λ e. absurd (omega arith); along-y = λ e. absurd (omega arith); along-z = λ e. absurd (omega arith) })
-    (λ c. record { along-x = λ e. absurd (omega arith); along-y = λ e. absurd (omega arith); along-z = λ e. absurd (omega arith) }))
+    (λ c. let d = c .before .before in in-axes d (c .before .if1 .taken) (c .if2 .taken) refl)
+    (λ c. let d = c .before .before .before in in-axes d (c .before .before .if1 .taken) (c .before .if2 .left) (c .if3 .taken))
+    (λ c. let d = c .before .before .before in in-axes d (c .before .before .if1 .taken) (c .before .if2 .left) (c .if3 .left))
+    (λ c. let d = c .before .before .before in in-axes d (c .before .before .if1 .left) (c .before .if4 .taken) (c .if5 .taken))
+    (λ c. let d = c .before .before .before in in-axes d (c .before .before .if1 .left) (c .before .if4 .taken) (c .if5 .left))
+    (λ c. let d = c .before .before in in-axes d (c .before .if1 .left) (c .if4 .left) refl))

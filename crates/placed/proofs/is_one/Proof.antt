@@ -1,4 +1,4 @@
--- `triangles::is_one` meets its contract: the range, the least and the greatest coordinate are tested in turn. Assumes nothing.
+-- `placed::is_one` meets its contract: the range, the least and the greatest coordinate are tested in turn. Assumes nothing.
 use borrow.Author.Needs.{needs}
 use borrow.Author.Tests.{eq-eqb, ne-eqb}
 use mathlib.Core.Bool.{Bool, true, false, _&&_}
@@ -17,9 +17,9 @@ use Rattle.integers.proofs.Omega.{zarith}
 use Rattle.integers.proofs.Expr.{Expr, var, _⊕_, _⊗_, nth, eval}
 use Rattle.integers.proofs.Machine.{Asks, mach, back, asks, run, learnt}
 use Rattle.overlap.specs.Bounds.{indexMax}
-use Rattle.triangles.specs.Box.{isOne, oneBounds}
-use Rattle.triangles.proofs.is_one.Statement.{statement}
-use Rattle.triangles.proofs.is_one.Tie as tie
+use Rattle.placed.specs.Box.{isOne, oneBounds}
+use Rattle.placed.proofs.is_one.Statement.{statement}
+use Rattle.placed.proofs.is_one.Tie as tie
 
 abbrev ρ : tie.Start → List ℤ
 ρ s = let a = s .args in a .origin ∷ a .step ∷ a .extent ∷ a .a0 ∷ a .a1 ∷ a .a2 ∷ []

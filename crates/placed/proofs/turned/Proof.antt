@@ -1,7 +1,7 @@
--- `triangles::turned` meets its contract: each part is turned. Assumes nothing.
+-- `placed::turned` meets its contract: each part is turned. Assumes nothing.
 use mathlib.Core.Path.{_≡_}
-use Rattle.triangles.proofs.turned.Statement.{statement}
-use Rattle.triangles.proofs.turned.Tie as tie
+use Rattle.placed.proofs.turned.Statement.{statement}
+use Rattle.placed.proofs.turned.Tie as tie
 
 returns : tie.Need-returns
 returns c =

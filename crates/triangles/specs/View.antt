@@ -1,4 +1,4 @@
--- A triangle with its box of cells, seen with the axes in some turn. Definitions only.
+-- A grid's cells seen with the axes in some turn, and what a placed triangle adds to a map. Definitions only.
 use mathlib.Core.Bool.{Bool}
 use mathlib.Core.List.{List}
 use mathlib.Core.Path.{_≡_}
@@ -11,17 +11,15 @@ use Rattle.overlap.specs.Geometry.{Point, Triangle, cube}
 use Rattle.overlap.specs.Grid as overlap
 use Rattle.overlap.specs.Grid.{boxCorner}
 use Rattle.overlap.specs.Rule.{normal, overlapsBox}
-use Rattle.overlap.specs.Vectors.{pointOf, triangleOf, measuredFrom}
+use Rattle.overlap.specs.Vectors.{pointOf, measuredFrom}
 use Rattle.ranges.specs.declared.BoxRange.{BoxRange}
 use Rattle.ranges.specs.Range.{PicksBox}
-use Rattle.column_rule.specs.Turn.{turnPoint, turnTriangle, turnBox}
 use Rattle.columns.specs.declared.Strides.{Strides}
 use Rattle.columns.specs.Draw.{uOf, vOf, wOf, cellsOf, Numbers}
 use Rattle.blocks.specs.Block.{Side}
-use Rattle.triangles.specs.declared.Lattice.{Lattice}
-use Rattle.triangles.specs.declared.Placed.{Placed}
-use Rattle.triangles.specs.Add.{boxesOf, Adds}
-use Rattle.triangles.specs.Box.{stridesOf, turnStrides}
+use Rattle.placed.specs.declared.Placed.{Placed}
+use Rattle.placed.specs.Placed.{cornersOf}
+use Rattle.triangles.specs.Add.{Adds}
 
 -- The numbering g, the triangle t, the boxes l and the ranges r speak of the same cells, their axes in some turn: of the first `cells` cells, those that are
 -- wanted are those whose boxes t overlaps.
@@ -30,10 +28,6 @@ pub record View (g : Strides) (t : Triangle) (l : overlap.Lattice) (r : BoxRange
   pub picks : PicksBox t l (g .nu) (g .nv) (g .nw) r
   pub cells-are : cellsOf g ≡ cells
   pub rule : (n : ℕ) → n < cells → overlapsBox t (boxCorner l (uOf g n) (vOf g n) (wOf g n)) (cube (l .extent)) ≡ wanted n
-
--- A placed triangle's corners.
-abbrev pub cornersOf : Placed → Triangle
-cornersOf p = triangleOf (p .v0) (p .v1) (p .v2)
 
 -- What its columns ask: bounded numbers, its normal, a numbering with room in the map, and a box of cells that is not empty.
 pub record PlacedReady (p : Placed) (step extent : ℤ) (bytes : ℕ) : Type 0 where
@@ -58,17 +52,3 @@ abbrev pub PlacedAdds : Placed → (step extent : ℤ) → (old new : List ℕ) 
 PlacedAdds p step extent old new =
     (t : Triangle) (o : Point) (cells : ℕ) (wanted : ℕ → Bool) → View (p .s) t (latticeAt o step extent) (p .b) cells wanted → measuredFrom o t ≡ cornersOf p
     → Adds cells wanted old new
-
--- The triangle t of a lattice, placed with its columns along z.
-pub record PlacedFor (g : Lattice) (b : BoxRange) (t : Triangle) (p : Placed) : Type 0 where
-  pub corners : cornersOf p ≡ measuredFrom (boxesOf g .first) t
-  pub normal-is : pointOf (p .n) ≡ normal (cornersOf p)
-  pub strides-are : p .s ≡ stridesOf g
-  pub box-is : p .b ≡ b
-
--- q is p, with the axes taken in turn.
-pub record TurnedFrom (p q : Placed) : Type 0 where
-  pub corners : cornersOf q ≡ turnTriangle (cornersOf p)
-  pub normal-is : pointOf (q .n) ≡ turnPoint (pointOf (p .n))
-  pub strides-are : q .s ≡ turnStrides (p .s)
-  pub box-is : q .b ≡ turnBox (p .b)

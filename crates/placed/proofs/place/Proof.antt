@@ -1,12 +1,12 @@
--- `triangles::place` meets its contract: the corners are measured, and the normal is theirs. Assumes nothing.
+-- `placed::place` meets its contract: the corners are measured, and the normal is theirs. Assumes nothing.
 use mathlib.Core.Path.{_≡_, refl, sym, ap₂, _∙_, subst}
 use Rattle.integers.proofs.Bounds.{within-sub}
 use Rattle.overlap.specs.Bounds.{offsetMax, BoundedPoint, PointWithin, TriangleWithin}
 use Rattle.overlap.specs.Geometry.{Point, minus}
 use Rattle.overlap.specs.Vectors.{pointOf, triangleOf, measuredFrom}
-use Rattle.triangles.specs.Add.{boxesOf}
-use Rattle.triangles.proofs.place.Statement.{statement}
-use Rattle.triangles.proofs.place.Tie as tie
+use Rattle.placed.specs.Lattice.{boxesOf}
+use Rattle.placed.proofs.place.Statement.{statement}
+use Rattle.placed.proofs.place.Tie as tie
 
 origin-in : (c : tie.After-origin-of) → BoundedPoint (pointOf (c .origin-of .result))
 origin-in c = subst BoundedPoint (sym (c .origin-of .ensures)) (c .before .pre .1 .first)

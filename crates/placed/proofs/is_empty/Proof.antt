@@ -1,7 +1,7 @@
--- `triangles::is_empty` meets its contract: each axis in turn. Assumes nothing.
+-- `placed::is_empty` meets its contract: each axis in turn. Assumes nothing.
 use borrow.Author.Tests.{le-leb, lt-leb}
-use Rattle.triangles.proofs.is_empty.Statement.{statement}
-use Rattle.triangles.proofs.is_empty.Tie as tie
+use Rattle.placed.proofs.is_empty.Statement.{statement}
+use Rattle.placed.proofs.is_empty.Tie as tie
 
 pub is-empty-spec : {M : Type 1} → statement M
 is-empty-spec =

@@ -1,4 +1,4 @@
--- `triangles::measured_from` meets its contract: each difference is that of two bounded numbers.
+-- `placed::measured_from` meets its contract: each difference is that of two bounded numbers.
 use mathlib.Core.List.{List, [], _∷_}
 use Prim.Native.Nat.{ℕ}
 use lib.IntN.{ℤ}
@@ -6,8 +6,8 @@ use Rattle.integers.specs.Within.{Withins}
 use Rattle.integers.proofs.Expr.{Expr, var, _⊖_}
 use Rattle.integers.proofs.Machine.{asks, run}
 use Rattle.overlap.specs.Bounds.{coordinateMax, each}
-use Rattle.triangles.proofs.measured_from.Statement.{statement}
-use Rattle.triangles.proofs.measured_from.Tie as tie
+use Rattle.placed.proofs.measured_from.Statement.{statement}
+use Rattle.placed.proofs.measured_from.Tie as tie
 
 abbrev bs : List ℕ
 bs = each coordinateMax 6 []

@@ -1,0 +1,2 @@
+-- The axis of a row of cells.
+pub mod Rows

@@ -1,0 +1,3 @@
+pub mod Lattice
+pub mod Box
+pub mod Placed
