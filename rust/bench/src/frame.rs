@@ -1,6 +1,7 @@
-//! The frame file: its reader, with the questions 1 to 8, and a writer for scenes.
+//! The frame file, as the peers read it, with the questions 1 to 8.
 
 use crate::rule::{Point, Triangle};
+use stall::Refusal;
 
 /// Where cells stand: how many along each axis, their edge, and the lowest corner of the first.
 #[derive(Clone, Copy, Debug)]
@@ -20,13 +21,6 @@ impl Grid {
     pub fn map_length(&self) -> usize {
         self.count().div_ceil(8)
     }
-}
-
-/// The number of the first question answered with "no", and the place.
-#[derive(Clone, Copy, Debug, PartialEq, Eq)]
-pub struct Refusal {
-    pub number: u8,
-    pub place: u32,
 }
 
 /// A field of a big-endian word, by its first bit and its width.
@@ -106,33 +100,4 @@ impl<'a> Frame<'a> {
             [point(word, 2), point(word, 44), point(word, 86)]
         })
     }
-}
-
-/// Puts the low `width` bits of a value behind the bits of a word.
-fn push(word: &mut u128, value: i64, width: u32) {
-    *word = (*word << width) | (value as u128 & ((1 << width) - 1));
-}
-
-/// A file for a grid and triangles, all of kind 0.
-pub fn write(grid: &Grid, triangles: &[Triangle]) -> Vec<u8> {
-    let mut word = 0;
-    push(&mut word, 1, 4);
-    for n in grid.cells {
-        push(&mut word, n as i64 - 1, 6);
-    }
-    push(&mut word, grid.edge, 8);
-    for x in grid.origin {
-        push(&mut word, x, 14);
-    }
-    push(&mut word, triangles.len() as i64, 12);
-    push(&mut word, 0, 12);
-    let mut file = word.to_be_bytes()[4..].to_vec();
-    for triangle in triangles {
-        let mut word = 0;
-        for x in triangle.iter().flatten() {
-            push(&mut word, *x, 14);
-        }
-        file.extend(word.to_be_bytes());
-    }
-    file
 }

@@ -30,10 +30,10 @@ impl<'a> Map<'a> {
     }
 
     /// How many cells are filled: eight bytes at a time, then the bytes behind them.
-    pub fn count(&self) -> u32 {
+    pub fn count(&self) -> usize {
         let words = self.bytes.chunks_exact(8);
         let rest: u32 = words.remainder().iter().map(|byte| byte.count_ones()).sum();
         let ones = |word: &[u8]| u64::from_le_bytes(word.try_into().unwrap()).count_ones();
-        rest + words.map(ones).sum::<u32>()
+        (rest + words.map(ones).sum::<u32>()) as usize
     }
 }

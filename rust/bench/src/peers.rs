@@ -1,37 +1,21 @@
 //! The peers: four ways to fill a map. Each reads the file, asks the questions, and counts.
 
-use crate::frame::{Frame, Grid, Refusal};
+use crate::frame::{Frame, Grid};
 use crate::halving;
 use crate::map::Map;
-use crate::rule::{as_printed, cells_of_box, Block, Point, Setup, Triangle, PLANES};
+use crate::rule::{cells_of_box, Block, Point, Setup, Triangle, PLANES};
+use stall::Refusal;
 
 /// A fill: the number of filled cells, or the refusal.
-pub type Fill = fn(&[u8], &mut [u8]) -> Result<u32, Refusal>;
+pub type Fill = fn(&[u8], &mut [u8]) -> Result<usize, Refusal>;
 
 /// The peers by name. The first is the verified library.
 pub const PEERS: [(&str, Fill); 4] = [
-    ("rattle", rattle),
+    ("rattle", stall::fill),
     ("halving", halving),
     ("box", every_cell),
     ("column", columns),
 ];
-
-/// The static library's fill.
-pub fn rattle(file: &[u8], map: &mut [u8]) -> Result<u32, Refusal> {
-    extern "C" {
-        fn stall_fill(file: *const u8, file_len: usize, map: *mut u8, map_len: usize) -> u64;
-    }
-    // SAFETY: both slices are alive for the call, and the library keeps neither.
-    let answer = unsafe { stall_fill(file.as_ptr(), file.len(), map.as_mut_ptr(), map.len()) };
-    if answer >> 56 == 0 {
-        Ok(answer as u32)
-    } else {
-        Err(Refusal {
-            number: (answer >> 48) as u8,
-            place: answer as u32,
-        })
-    }
-}
 
 /// Fills a map by a way to place one triangle.
 #[inline(always)]
@@ -39,7 +23,7 @@ fn fill_by(
     file: &[u8],
     lent: &mut [u8],
     place: impl Fn(&mut Map, &Triangle),
-) -> Result<u32, Refusal> {
+) -> Result<usize, Refusal> {
     let frame = Frame::read(file, lent.len())?;
     let mut map = Map::new(frame.grid, lent);
     for triangle in frame.triangles() {
@@ -57,7 +41,7 @@ pub fn corner(grid: &Grid, i: usize, j: usize, k: usize) -> Point {
 
 // ---- every cell of the triangle's box of cells, as in document 004
 
-pub fn every_cell(file: &[u8], map: &mut [u8]) -> Result<u32, Refusal> {
+pub fn every_cell(file: &[u8], map: &mut [u8]) -> Result<usize, Refusal> {
     fill_by(file, map, |map, t| {
         if let Some(block) = cells_of_box(t, &map.grid) {
             walk_box(map, &Setup::new(t, map.grid.edge), block);
@@ -79,7 +63,7 @@ fn walk_box(map: &mut Map, setup: &Setup, [x, y, z]: Block) {
 
 // ---- columns along the dominant axis of the normal, as in figure 17 of document 002
 
-pub fn columns(file: &[u8], map: &mut [u8]) -> Result<u32, Refusal> {
+pub fn columns(file: &[u8], map: &mut [u8]) -> Result<usize, Refusal> {
     fill_by(file, map, |map, t| {
         if let Some(block) = cells_of_box(t, &map.grid) {
             let setup = Setup::new(t, map.grid.edge);
@@ -138,23 +122,6 @@ fn walk_columns<const W: usize>(map: &mut Map, setup: &Setup, block: Block) {
 
 // ---- blocks of columns, halved without the halves that an edge rules out: as the library does
 
-pub fn halving(file: &[u8], map: &mut [u8]) -> Result<u32, Refusal> {
+pub fn halving(file: &[u8], map: &mut [u8]) -> Result<usize, Refusal> {
     fill_by(file, map, halving::fill_triangle)
-}
-
-// ---- every cell of the grid by the rule as printed: no peer, but what the peers are held to
-
-pub fn printed(file: &[u8], map: &mut [u8]) -> Result<u32, Refusal> {
-    fill_by(file, map, |map, t| {
-        let grid = map.grid;
-        for k in 0..grid.cells[2] {
-            for j in 0..grid.cells[1] {
-                for i in 0..grid.cells[0] {
-                    if as_printed(t, corner(&grid, i, j, k), grid.edge) {
-                        map.set([i, j, k]);
-                    }
-                }
-            }
-        }
-    })
 }

@@ -1,62 +1,27 @@
 //! Route tests: four ways to test a route against a map, and the routes that they are measured on.
 
-use crate::frame::{Frame, Grid, Refusal};
-use crate::peers::{corner, rattle as fill};
-use crate::rule::{as_printed, cells_of_box, Block, Point, Setup, Triangle, PLANES};
+use crate::frame::{Frame, Grid};
+use crate::peers::corner;
+use crate::printed;
+use crate::rule::{cells_of_box, Block, Point, Setup, Triangle, PLANES};
 use crate::runs;
 use crate::scenes::{self, Random};
+use stall::{Refusal, Route};
 use std::collections::HashSet;
 
-/// What a route test answers: free; or blocked, by a leg at a cell; or the refusal.
-#[derive(Clone, Copy, Debug, PartialEq, Eq)]
-pub enum Answer {
-    Free,
-    Blocked { leg: u8, cell: u32 },
-    Refused(Refusal),
-}
+/// What a route test answers.
+pub type Answer = Result<Route, Refusal>;
 
 /// A route test of a file, a map, and the points' numbers: x, y and z in turn.
 pub type Test = fn(&[u8], &[u8], &[i16]) -> Answer;
 
 /// The peers by name. The first is the verified library.
 pub const PEERS: [(&str, Test); 4] = [
-    ("rattle", rattle),
+    ("rattle", stall::test_route),
     ("rows", rows),
     ("box", whole_box),
     ("cells", each_cell),
 ];
-
-/// The static library's route test.
-fn rattle(file: &[u8], map: &[u8], numbers: &[i16]) -> Answer {
-    #[rustfmt::skip]
-    extern "C" {
-        fn stall_route(
-            file: *const u8, file_len: usize, map: *const u8, map_len: usize,
-            numbers: *const i16, numbers_len: usize,
-        ) -> u64;
-    }
-    let (files, maps) = (file.as_ptr(), map.as_ptr());
-    // SAFETY: the three slices are alive for the call, and the library keeps none.
-    let answer = unsafe {
-        stall_route(
-            files,
-            file.len(),
-            maps,
-            map.len(),
-            numbers.as_ptr(),
-            numbers.len(),
-        )
-    };
-    let (number, low) = ((answer >> 48) as u8, answer as u32);
-    match answer >> 56 {
-        1 => Answer::Refused(Refusal { number, place: low }),
-        2 => Answer::Free,
-        _ => Answer::Blocked {
-            leg: (answer >> 32) as u8,
-            cell: low,
-        },
-    }
-}
 
 /// Tests a route by a way to search a leg's box of cells for the lowest that is filled and touched.
 #[inline(always)]
@@ -66,22 +31,16 @@ fn test_by(
     numbers: &[i16],
     search: impl Fn(&Grid, &[u8], &Triangle, Block) -> Option<usize>,
 ) -> Answer {
-    let grid = match questions(file, map, numbers) {
-        Ok(grid) => grid,
-        Err(refusal) => return Answer::Refused(refusal),
-    };
+    let grid = questions(file, map, numbers)?;
     for m in 0..numbers.len() / 3 - 1 {
         let [a, b] = [m, m + 1].map(|m| point(&numbers[3 * m..]));
         let leg = [a, b, b];
         let found = cells_of_box(&leg, &grid).and_then(|block| search(&grid, map, &leg, block));
         if let Some(cell) = found {
-            return Answer::Blocked {
-                leg: m as u8,
-                cell: cell as u32,
-            };
+            return Ok(Route::Blocked { leg: m, cell });
         }
     }
-    Answer::Free
+    Ok(Route::Free)
 }
 
 /// Questions 1 to 10, in turn.
@@ -240,7 +199,7 @@ fn scan_by(
 // ---- the routes to measure
 
 /// The points of a route, and how many are proposed for each.
-const POINTS: usize = 64;
+const POINTS: usize = stall::POINTS_MOST;
 const PROPOSED: usize = 200;
 
 /// A file with the map of its fill.
@@ -252,8 +211,8 @@ pub struct Scene {
 impl Scene {
     /// The map of a file that is accepted.
     fn new(file: Vec<u8>) -> Option<Scene> {
-        let mut map = vec![0; 32768];
-        fill(&file, &mut map).ok()?;
+        let mut map = vec![0; stall::MAP_MOST];
+        stall::fill(&file, &mut map).ok()?;
         Some(Scene { file, map })
     }
 
@@ -298,7 +257,7 @@ fn farthest(random: &mut Random, scene: &Scene, from: Point, free: bool) -> Opti
     let mut proposed = [(); PROPOSED].map(|_| any_point(random, &grid));
     proposed.sort_by_key(|to| -distance([from, *to]));
     let mut proposed = proposed.into_iter();
-    proposed.find(|to| (scene.leg(from, *to) == Answer::Free) == free)
+    proposed.find(|to| (scene.leg(from, *to) == Ok(Route::Free)) == free)
 }
 
 /// Points whose legs are free among rails that lie anywhere. Their boxes of cells are slim.
@@ -307,7 +266,7 @@ fn slim(random: &mut Random, scene: &Scene, count: usize) -> Vec<Point> {
     let mut points = vec![];
     while points.is_empty() {
         let p = any_point(random, &grid);
-        if scene.leg(p, p) == Answer::Free {
+        if scene.leg(p, p) == Ok(Route::Free) {
             points.push(p);
         }
     }
@@ -363,29 +322,6 @@ pub fn route(shape: &str, answer: &str) -> (Scene, Vec<i16>) {
 
 // ---- the check
 
-/// The search of the whole grid by the rule as printed: no peer, but what the peers are held to.
-fn printed(file: &[u8], map: &[u8], numbers: &[i16]) -> Answer {
-    let grid = match questions(file, map, numbers) {
-        Ok(grid) => grid,
-        Err(refusal) => return Answer::Refused(refusal),
-    };
-    let [nx, ny, _] = grid.cells;
-    for (m, ends) in numbers[3..].chunks_exact(3).enumerate() {
-        let leg = [point(&numbers[3 * m..]), point(ends), point(ends)];
-        let touches = |n: usize| {
-            let p = corner(&grid, n % nx, n / nx % ny, n / nx / ny);
-            is_filled(map, n) && as_printed(&leg, p, grid.edge)
-        };
-        if let Some(n) = (0..grid.count()).find(|n| touches(*n)) {
-            return Answer::Blocked {
-                leg: m as u8,
-                cell: n as u32,
-            };
-        }
-    }
-    Answer::Free
-}
-
 /// A route of any shape in a grid, or one that breaks a limit.
 fn any_route(random: &mut Random, grid: &Grid) -> Vec<i16> {
     let count = match random.between(0, 9) {
@@ -415,8 +351,8 @@ fn check_measured() {
     for (shape, answer) in ROUTES {
         let (scene, numbers) = route(shape, answer);
         match scene.agree(&numbers) {
-            Answer::Free => assert!(answer == "free", "{shape} {answer}"),
-            Answer::Blocked { leg: 62, .. } => assert!(answer == "blocked", "{shape} {answer}"),
+            Ok(Route::Free) => assert!(answer == "free", "{shape} {answer}"),
+            Ok(Route::Blocked { leg: 62, .. }) => assert!(answer == "blocked", "{shape} {answer}"),
             other => panic!("{shape} {answer}: {other:?}"),
         }
         if (shape, answer) == ("wide", "free") {
@@ -437,9 +373,9 @@ pub fn check() {
     let mut random = Random(4);
     let mut counts = [0; 3];
     let mut count = |answer: Answer| match answer {
-        Answer::Free => counts[0] += 1,
-        Answer::Blocked { .. } => counts[1] += 1,
-        Answer::Refused(_) => counts[2] += 1,
+        Ok(Route::Free) => counts[0] += 1,
+        Ok(Route::Blocked { .. }) => counts[1] += 1,
+        Err(_) => counts[2] += 1,
     };
     for _ in 0..300 {
         count(rails.agree(&any_route(&mut random, &scenes::grid(64))));
@@ -449,7 +385,7 @@ pub fn check() {
         let grid = Frame::read(&scene.file, scene.map.len()).ok().unwrap().grid;
         let numbers = any_route(&mut random, &grid);
         let answer = scene.agree(&numbers);
-        let expected = printed(&scene.file, &scene.map, &numbers);
+        let expected = printed::test_route(&scene.file, &scene.map, &numbers);
         assert!(answer == expected, "printed rule: {answer:?}, {expected:?}");
         count(answer);
     }

@@ -1,4 +1,4 @@
-//! The overlap rule, as eleven linear forms of a cell's lowest corner, and as document 01 prints it.
+//! The overlap rule, as eleven linear forms of a cell's lowest corner.
 
 use crate::frame::Grid;
 use std::ops::Range;
@@ -94,34 +94,4 @@ pub fn cells_of_box(t: &Triangle, grid: &Grid) -> Option<Block> {
         first.max(0) as usize..end
     });
     (!x.is_empty() && !y.is_empty() && !z.is_empty()).then_some([x, y, z])
-}
-
-/// The rule for the cell with lowest corner p, sentence by sentence.
-pub fn as_printed(t: &Triangle, p: Point, s: i64) -> bool {
-    let n = normal(t);
-    for w in 0..3 {
-        let on_axis = [t[0][w], t[1][w], t[2][w]];
-        if *on_axis.iter().min().unwrap() > p[w] + s || *on_axis.iter().max().unwrap() < p[w] {
-            return false;
-        }
-    }
-    let corner = |q: usize| -> i64 {
-        (0..3)
-            .map(|w| n[w] * (p[w] + s * (q as i64 >> w & 1) - t[0][w]))
-            .sum()
-    };
-    if (0..8).map(corner).min() > Some(0) || (0..8).map(corner).max() < Some(0) {
-        return false;
-    }
-    PLANES.iter().enumerate().all(|(w, &(u, v))| {
-        (0..3).all(|i| {
-            let (from, to) = (t[i], t[(i + 1) % 3]);
-            let mut m = [-(to[v] - from[v]), to[u] - from[u]];
-            if n[w] < 0 {
-                m = [-m[0], -m[1]];
-            }
-            let along = m[0] * p[u] + m[1] * p[v] - (m[0] * from[u] + m[1] * from[v]);
-            along + (s * m[0]).max(0) + (s * m[1]).max(0) >= 0
-        })
-    })
 }

@@ -1,7 +1,8 @@
 //! Scenes: frame files made by a fixed pseudo-random sequence.
 
-use crate::frame::{write, Grid};
+use crate::frame::Grid;
 use crate::rule::{Point, Triangle};
+use independent::{Header, Record};
 
 /// Numbers by the splitmix64 rule.
 pub struct Random(pub u64);
@@ -161,6 +162,20 @@ pub fn near_corner(random: &mut Random, high: bool) -> Point {
             -x
         }
     })
+}
+
+/// A file for a grid and triangles, all of kind 0.
+fn write(grid: &Grid, triangles: &[Triangle]) -> Vec<u8> {
+    let header = Header {
+        version: 1,
+        cells: grid.cells.map(|n| n as i64),
+        edge: grid.edge,
+        origin: grid.origin,
+        count: triangles.len(),
+    };
+    let record = |&corners: &Triangle| Record { kind: 0, corners };
+    let records: Vec<Record> = triangles.iter().map(record).collect();
+    independent::write(&header, &records)
 }
 
 /// The file of a scene for the grid with so many cells a side.

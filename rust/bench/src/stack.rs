@@ -1,19 +1,8 @@
 //! How much stack the library's calls take: a call runs on painted bytes, and the paint that is left
 //! is counted. For x86-64.
 
+use stall::library::{stall_fill, stall_read, stall_route};
 use std::arch::asm;
-
-#[rustfmt::skip]
-extern "C" {
-    fn stall_fill(file: *const u8, file_len: usize, map: *mut u8, map_len: usize) -> u64;
-    fn stall_route(
-        file: *const u8, file_len: usize, map: *const u8, map_len: usize,
-        numbers: *const i16, numbers_len: usize,
-    ) -> u64;
-    fn stall_read(
-        file: *const u8, file_len: usize, record: usize, out: *mut i32, out_len: usize,
-    ) -> u64;
-}
 
 const PAINT: u8 = 0xa5;
 
@@ -67,7 +56,7 @@ pub fn route(file: &[u8], map: &[u8], numbers: &[i16]) -> usize {
 
 /// The stack of a reading of record 0.
 pub fn read(file: &[u8]) -> usize {
-    let mut out = [0i32; 19];
+    let mut out = [0i32; stall::READ_NUMBERS];
     let (file, file_len) = (file.as_ptr() as usize, file.len());
     let out_at = out.as_mut_ptr() as usize;
     // SAFETY: the slices outlive the call, and the library keeps neither.

@@ -1,7 +1,7 @@
 //! The lines that the program digest_frames must print: the same frames, from the independent version.
 
 use crate::scene::{Frame, Point};
-use independent::Route;
+use independent::{Record, Route};
 
 const FRAMES: u64 = 200;
 const ROUTES: u64 = 4;
@@ -28,15 +28,16 @@ impl Numbers {
             _ => 1 + self.draw(axis, 16),
         };
         let mut frame = Frame {
-            version: 1,
             cells: [side(0), side(1), side(2)],
             edge: 1 + self.draw(3, 12),
             origin: [4, 5, 6].map(|k| self.draw(k, 2001) - 1000),
             triangles: Vec::new(),
         };
         for record in 0..self.draw(7, 6) as u64 {
-            let triangle = (self.kind(record), self.corners(record, &frame));
-            frame.triangles.push(triangle);
+            frame.triangles.push(Record {
+                kind: self.kind(record),
+                corners: self.corners(record, &frame),
+            });
         }
         frame
     }

@@ -1,56 +1,29 @@
-//! Pseudo-random frames and routes, and the writer of frame files.
+//! Pseudo-random frames and routes.
 
 use crate::random::Random;
+use independent::{Header, Record};
 
 pub type Point = [i64; 3];
 
 /// A frame before it is written.
 pub struct Frame {
-    pub version: i64,
     pub cells: [i64; 3],
     pub edge: i64,
     pub origin: Point,
-    pub triangles: Vec<(i64, [Point; 3])>,
-}
-
-/// Bits, most significant first.
-struct Bits(Vec<bool>);
-
-impl Bits {
-    fn put(&mut self, width: u32, value: i64) {
-        self.0
-            .extend((0..width).rev().map(|bit| value >> bit & 1 == 1));
-    }
-
-    fn into_bytes(self) -> Vec<u8> {
-        self.0
-            .chunks(8)
-            .map(|byte| {
-                byte.iter()
-                    .fold(0, |value, &bit| value << 1 | u8::from(bit))
-            })
-            .collect()
-    }
+    pub triangles: Vec<Record>,
 }
 
 impl Frame {
     /// The frame file.
     pub fn write(&self) -> Vec<u8> {
-        let mut bits = Bits(Vec::new());
-        bits.put(4, self.version);
-        self.cells.iter().for_each(|cells| bits.put(6, cells - 1));
-        bits.put(8, self.edge);
-        self.origin.iter().for_each(|&origin| bits.put(14, origin));
-        bits.put(12, self.triangles.len() as i64);
-        bits.put(12, 0);
-        for (kind, corners) in &self.triangles {
-            bits.put(2, *kind);
-            corners
-                .iter()
-                .flatten()
-                .for_each(|&value| bits.put(14, value));
-        }
-        bits.into_bytes()
+        let header = Header {
+            version: 1,
+            cells: self.cells,
+            edge: self.edge,
+            origin: self.origin,
+            count: self.triangles.len(),
+        };
+        independent::write(&header, &self.triangles)
     }
 
     pub fn map_bytes(&self) -> usize {
@@ -88,11 +61,10 @@ pub fn plates() -> Vec<Frame> {
         [[0, 0, 0], [far, far, far], [far, 0, 0]],
     ];
     let plate = |corners| Frame {
-        version: 1,
         cells: [64; 3],
         edge: 10,
         origin: [0; 3],
-        triangles: vec![(0, corners)],
+        triangles: vec![Record { kind: 0, corners }],
     };
     corners.map(plate).into()
 }
@@ -123,7 +95,6 @@ fn with_steel(
     triangles: usize,
 ) -> Frame {
     let mut frame = Frame {
-        version: 1,
         cells,
         edge,
         origin,
@@ -136,7 +107,7 @@ fn with_steel(
             random.between(0, 2)
         };
         let corners = triangle(random, &frame);
-        frame.triangles.push((kind, corners));
+        frame.triangles.push(Record { kind, corners });
     }
     frame
 }

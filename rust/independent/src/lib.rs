@@ -8,11 +8,13 @@ mod lister;
 mod map;
 mod overlap;
 mod route;
+mod write;
 
 pub use frame::{read, Header, Record};
 pub use lister::list;
 pub use map::fill;
 pub use route::{test_route, Route};
+pub use write::write;
 
 /// A refused call: the number of the first question answered with "no", and the place.
 #[derive(Clone, Copy, Debug, PartialEq, Eq)]

@@ -1,30 +1,49 @@
 //! The worked examples of the scope document.
 
-use independent::{fill, list, read, test_route, Refusal, Route};
+use independent::{fill, list, read, test_route, write, Header, Record, Refusal, Route};
 
-const HEADER: [u8; 12] = [0x10, 0x41, 0x04, 0x28, 0, 0, 0, 0, 0, 0, 0x10, 0];
+/// The grid of the worked examples, for one triangle.
+const HEADER: Header = Header {
+    version: 1,
+    cells: [2; 3],
+    edge: 10,
+    origin: [0; 3],
+    count: 1,
+};
 
-/// A record of kind 0.
-fn record(corners: [i64; 9]) -> [u8; 16] {
-    let packed = corners.iter().fold(0u128, |packed, &value| {
-        packed << 14 | (value & 0x3fff) as u128
-    });
-    packed.to_be_bytes()
-}
-
+/// The worked frame with one triangle of kind 0.
 fn file(corners: [i64; 9]) -> Vec<u8> {
-    [&HEADER[..], &record(corners)].concat()
+    let corners = [0, 3, 6].map(|i| [corners[i], corners[i + 1], corners[i + 2]]);
+    write(&HEADER, &[Record { kind: 0, corners }])
 }
 
 const G: [i64; 9] = [1, 20, 5, 20, 20, 5, 20, 1, 5];
 
 #[test]
-fn rows() {
+fn bytes() {
     let printed = [
-        0x00, 0x05, 0x00, 0x14, 0x00, 0x50, 0x01, 0x40, 0x05, 0x00, 0x14, 0x00, 0x50, 0x01, 0x40,
-        0x05,
+        0x10, 0x41, 0x04, 0x28, 0x00, 0x00, 0x00, 0x00, 0x00, 0x00, 0x10, 0x00, 0x00, 0x05, 0x00,
+        0x14, 0x00, 0x50, 0x01, 0x40, 0x05, 0x00, 0x14, 0x00, 0x50, 0x01, 0x40, 0x05,
     ];
-    assert_eq!(record([5; 9]), printed);
+    assert_eq!(file([5; 9]), printed);
+    // What is written is read: the least and the greatest values, and each kind in its place.
+    let header = Header {
+        cells: [64, 1, 33],
+        edge: 255,
+        origin: [-8192, 7936, -300],
+        count: 3,
+        ..HEADER
+    };
+    let corners = [[-8192, 8191, -1], [0, 1, -2], [8191, -8192, 4095]];
+    let records = [0, 1, 2].map(|kind| Record { kind, corners });
+    for (i, record) in records.into_iter().enumerate() {
+        let reading = read(&write(&header, &records), i);
+        assert_eq!(reading, Ok((header, Some(record))));
+    }
+}
+
+#[test]
+fn rows() {
     for (corners, byte) in [
         ([5; 9], 0x80),
         ([10, 5, 5, 10, 5, 5, 10, 5, 5], 0xc0),

@@ -84,8 +84,9 @@ pub enum NotRead {
     },
 }
 
-/// The calls as the library has them. `include/stall.h` says what each does.
-mod library {
+/// The calls as the library has them, which a measurement wants without the wrapper. `include/stall.h` says what each does,
+/// and what its pointers must be.
+pub mod library {
     extern "C" {
         pub fn stall_fill(file: *const u8, file_len: usize, map: *mut u8, map_len: usize) -> u64;
         pub fn stall_route(

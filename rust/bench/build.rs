@@ -1,8 +1,0 @@
-//! Links the static library that `rt staticlib stall` writes.
-
-fn main() {
-    let folder = concat!(env!("CARGO_MANIFEST_DIR"), "/../../target/staticlib");
-    println!("cargo:rustc-link-search=native={folder}");
-    println!("cargo:rustc-link-lib=static=stall");
-    println!("cargo:rerun-if-changed={folder}/libstall.a");
-}

@@ -1,0 +1,26 @@
+//! The rule as printed: no peer, but what the peers are held to. It is that of `rust/independent`,
+//! and its answers are said in the library's types.
+
+use stall::{Refusal, Route};
+
+/// The fill.
+pub fn fill(file: &[u8], map: &mut [u8]) -> Result<usize, Refusal> {
+    independent::fill(file, map).map_err(refusal)
+}
+
+/// The route test.
+pub fn test_route(file: &[u8], map: &[u8], numbers: &[i16]) -> Result<Route, Refusal> {
+    match independent::test_route(file, map, numbers) {
+        Ok(independent::Route::Free) => Ok(Route::Free),
+        Ok(independent::Route::Blocked { leg, cell }) => Ok(Route::Blocked { leg, cell }),
+        Err(no) => Err(refusal(no)),
+    }
+}
+
+/// A refusal in the library's type.
+fn refusal(no: independent::Refusal) -> Refusal {
+    Refusal {
+        number: no.number as u8,
+        place: no.place as u32,
+    }
+}
