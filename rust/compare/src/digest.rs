@@ -1,4 +1,4 @@
-//! The lines that the program digest_frames must print: the same frames, from the independent version.
+//! The cases that the program digests reads, and the lines that it must print, from the independent version.
 
 use crate::scene::{Frame, Point};
 use independent::{Record, Route};
@@ -83,6 +83,28 @@ fn digest(numbers: impl IntoIterator<Item = u64>) -> u64 {
     numbers
         .into_iter()
         .fold(0, |sum, number| (sum * 257 + number) % 4_294_967_291)
+}
+
+/// The cases: each frame's file in hexadecimal, the buffer that is lent, and the routes with commas between them.
+pub fn print_cases() {
+    for index in 0..FRAMES {
+        let numbers = Numbers(index);
+        let frame = numbers.frame();
+        let file: String = frame.write().iter().map(|b| format!("{b:02x}")).collect();
+        let routes: Vec<String> = (0..ROUTES)
+            .map(|route| words(&numbers.route(route, &frame)))
+            .collect();
+        println!(
+            "given: {file}\nbuffer 32770: aa\ndigest {index}: {}",
+            routes.join(", ")
+        );
+    }
+}
+
+/// Numbers with blanks between them.
+fn words(numbers: &[i16]) -> String {
+    let words: Vec<String> = numbers.iter().map(i16::to_string).collect();
+    words.join(" ")
 }
 
 /// A line for each frame: its index, the fill's answer, and the digests of the buffer and of the routes' answers.

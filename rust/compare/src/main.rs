@@ -2,7 +2,8 @@
 //!
 //!     compare          pseudo-random frames and routes, damaged files, short and long buffers
 //!     compare long     a million damaged files
-//!     compare digest   the lines that the program digest_frames must print, from the independent version
+//!     compare cases    the cases that the program digests reads
+//!     compare digest   the lines that the program digests must print, from the independent version
 
 mod damage;
 mod digest;
@@ -31,12 +32,16 @@ fn main() -> ExitCode {
             println!("damaged: {damaged} files compared");
         }
         Some("long") => damage::many(&mut tally, 1_000_000),
+        Some("cases") => {
+            digest::print_cases();
+            return ExitCode::SUCCESS;
+        }
         Some("digest") => {
             digest::print();
             return ExitCode::SUCCESS;
         }
         Some(_) => {
-            eprintln!("compare, compare long or compare digest");
+            eprintln!("compare, compare long, compare cases or compare digest");
             return ExitCode::FAILURE;
         }
     }
