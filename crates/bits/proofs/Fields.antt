@@ -4,18 +4,17 @@
 --     field-part     a field inside another, by a shift and a remainder
 --     field-of-word  a field out of the four bytes that have it
 --     byte-field     a byte is a field of 8 bits
---     field-drop     a field behind whole bytes that are left out
 --     one-shl        1 shifted left inside a word is a power of 2
 -- Assumes nothing.
-use mathlib.Core.Path.{_≡_, refl, sym, ap, _∙_}
+use mathlib.Core.Path.{_≡_, sym, ap, _∙_}
 use mathlib.Core.List.{List}
 use Prim.Native.Nat.{ℕ, zero, suc, _+_, _-_, _*_, _/_, _%_, _^_, _<_, _≤_}
 use native.Mathlib.Nat.{add-assoc, add-zero, add-suc, mul-assoc, div-one, div-eq-of-lt, pow-suc, one-mul, mod-eq-of-lt}
 use native.Mathlib.Omega.{arith}
-use lib.ListN.{getD, drop}
+use lib.ListN.{getD}
 use lib.Pow.{pow-lt, high, low, shr-shr}
-use lib.Seq.{getD-drop}
-use Rattle.bits.specs.Field.{bitAt, fieldAt, signedAt, Taken, TakenSigned}
+use Rattle.bits.specs.Field.{bitAt, fieldAt, signedAt}
+use Rattle.bits.specs.Inner.{Taken, TakenSigned}
 use Rattle.bits.specs.declared.Cursor.{Cursor}
 use Rattle.bits.specs.declared.Field.{Field}
 use Rattle.bits.specs.declared.SignedField.{SignedField}
@@ -52,18 +51,6 @@ byte-part s i (suc w) h k =
 
 pub byte-field : (s : List ℕ) (i : ℕ) → getD s i 0 < 256 → fieldAt s (i * 8) 8 ≡ getD s i 0
 byte-field s i h = byte-part s i 8 h (omega arith) ∙ div-one (getD s i 0)
-
-bit-drop : (s : List ℕ) (a p : ℕ) → bitAt (drop a s) p ≡ bitAt s (a * 8 + p)
-unfolding bitAt
-bit-drop s a p =
-    let byte : (a * 8 + p) / 8 ≡ a + p / 8 = omega arith in
-    let bit : (a * 8 + p) % 8 ≡ p % 8 = omega arith in
-    rw (getD-drop a s (p / 8) 0, byte, bit)
-
-pub field-drop : (s : List ℕ) (a p w : ℕ) → fieldAt (drop a s) p w ≡ fieldAt s (a * 8 + p) w
-unfolding fieldAt
-field-drop s a p zero = refl
-field-drop s a p (suc w) = rw (field-drop s a p w, bit-drop s a (p + w), add-assoc (a * 8) p w)
 
 -- ---- bytes into a word
 module _ (s : List ℕ) (bytes : (i : ℕ) → getD s i 0 < 256) where

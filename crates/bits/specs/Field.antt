@@ -1,14 +1,10 @@
 -- Bit fields of a list of bytes, the most significant bit first. Definitions only.
 use mathlib.Core.Bool.{cond}
 use mathlib.Core.List.{List}
-use mathlib.Core.Path.{_≡_}
 use Prim.Native.Nat.{ℕ, zero, suc, _+_, _-_, _*_, _/_, _%_, _^_}
 use lib.Dec.{ltb}
 use lib.IntN.{ℤ, pos, _-ℤ_}
 use lib.ListN.{getD}
-use Rattle.bits.specs.declared.Cursor.{Cursor}
-use Rattle.bits.specs.declared.Field.{Field}
-use Rattle.bits.specs.declared.SignedField.{SignedField}
 
 -- Bit p of the bytes s. Bits 0 to 7 are those of the first byte, bit 0 its highest. A bit past the end is 0.
 unfoldable pub bitAt : List ℕ → ℕ → ℕ
@@ -26,12 +22,3 @@ twosComplement w n = cond (ltb n (2 ^ (w - 1))) (pos n) (pos n -ℤ pos (2 ^ w))
 -- The w bits from bit p on, as a signed number.
 unfoldable pub signedAt : List ℕ → ℕ → ℕ → ℤ
 signedAt s p w = twosComplement w (fieldAt s p w)
-
--- What a cursor answers of a field of w bits: its value, and the cursor behind it.
-pub record Taken (s : List ℕ) (c : Cursor) (w : ℕ) (r : Field) : Type 0 where
-  pub value : r .value ≡ fieldAt s (c .at) w
-  pub next : r .next .at ≡ c .at + w
-
-pub record TakenSigned (s : List ℕ) (c : Cursor) (w : ℕ) (r : SignedField) : Type 0 where
-  pub value : r .value ≡ signedAt s (c .at) w
-  pub next : r .next .at ≡ c .at + w

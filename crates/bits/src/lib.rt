@@ -4,7 +4,8 @@
 ghost use mathlib.Core.Path.{_≡_};
 ghost use Prim.Native.Nat.{_+_, _-_, _*_, _/_, _%_, _<_, _≤_, _^_};
 ghost use lib.ListN.{getD, length};
-ghost use Rattle.bits.specs.Field.{fieldAt, twosComplement, Taken, TakenSigned};
+ghost use Rattle.bits.specs.Field.{fieldAt, twosComplement};
+ghost use Rattle.bits.specs.Inner.{Taken, TakenSigned};
 
 // A position in a string of bits, counted from the first byte's highest bit.
 pub struct Cursor {

@@ -1,6 +1,7 @@
 -- A block and its halves.
 --     rows                 a block's range is a range of columns
 --     cut-range            a range cut in two
+--     wider                a block of a grid is one of a larger grid
 --     halved-u, halved-v   a block cut across an axis
 --     long-u, long-v       the longer side of a block that is not small has two cells
 -- Assumes nothing.
@@ -8,21 +9,21 @@ use mathlib.Core.Bool.{Bool, true, false, _&&_, _||_, and-or-distrib-left, and-o
 use mathlib.Core.Path.{_≡_, refl}
 use Prim.Native.Nat.{ℕ, _+_, _-_, _*_, _/_, _<_, _≤_}
 use native.Mathlib.Decide.{decLt}
-use native.Mathlib.Nat.{mul-le-mul}
+use native.Mathlib.Nat.{mul-le-mul, mul-comm, le-trans, le-of-lt}
 use native.Mathlib.Omega.{arith}
 use borrow.Author.Tests.{lt-ltb, le-ltb, le-leb, lt-leb, leb-false}
 use lib.Dec.{leb, ltb}
-use Rattle.ranges.specs.declared.CellRange.{CellRange}
-use Rattle.ranges.specs.Range.{inRange}
+use Rattle.grid.specs.declared.CellRange.{CellRange}
+use Rattle.grid.specs.Range.{inRange}
 use Rattle.pending.specs.Pending.{halvings}
 use Rattle.pending.proofs.Laws.{fewer}
 use Rattle.columns.specs.Draw.{range}
 use Rattle.columns.specs.Column.{RowsIn}
 use Rattle.blocks.specs.declared.Block.{Block}
-use Rattle.blocks.specs.Block.{uOf, vOf, widthOf, isSmall, Side, BlockIn, Part, Halved}
+use Rattle.blocks.specs.Block.{uRange, vRange, widthOf, isSmall, SomeCells, BlockIn, SmallerPart, Halved}
 
 -- ---- a range
-pub rows : {n : ℕ} {r : CellRange} → Side n r → RowsIn r n
+pub rows : {n : ℕ} {r : CellRange} → SomeCells n r → RowsIn r n
 rows h = record { ordered = omega (arith, h .some); end = h .most }
 
 and-or-none : (p q : Bool) → (p && true) ≡ ((p && true) || (false && q))
@@ -54,11 +55,14 @@ cut-range first end m e some most = record {
 }
 
 -- ---- a block
+pub wider : {mu mv nu nv : ℕ} {b : Block} → mu ≤ nu → mv ≤ nv → BlockIn mu mv b → BlockIn nu nv b
+wider p q h = record { u = record { some = h .u .some; most = le-trans (h .u .most) p }; v = record { some = h .v .some; most = le-trans (h .v .most) q } }
+
 module _ (b : Block) (h : BlockIn 64 64 b) where
-  part-u : {p q : ℕ} → p < q → q ≤ b .u1 → halvings (q - p) < halvings (b .u1 - b .u0) → Part b (record { u0 = p; u1 = q; v0 = b .v0; v1 = b .v1 })
+  part-u : {p q : ℕ} → p < q → q ≤ b .u1 → halvings (q - p) < halvings (b .u1 - b .u0) → SmallerPart b (record { u0 = p; u1 = q; v0 = b .v0; v1 = b .v1 })
   part-u some most less = record { inside = record { u = record { some = some; most = most }; v = record { some = h .v .some; most = omega arith } }; less = omega (arith, less) }
 
-  part-v : {p q : ℕ} → p < q → q ≤ b .v1 → halvings (q - p) < halvings (b .v1 - b .v0) → Part b (record { u0 = b .u0; u1 = b .u1; v0 = p; v1 = q })
+  part-v : {p q : ℕ} → p < q → q ≤ b .v1 → halvings (q - p) < halvings (b .v1 - b .v0) → SmallerPart b (record { u0 = b .u0; u1 = b .u1; v0 = p; v1 = q })
   part-v some most less = record { inside = record { u = record { some = h .u .some; most = omega arith }; v = record { some = some; most = most } }; less = omega (arith, less) }
 
   pub halved-u : {m : ℕ} → CutRange (b .u0) m (b .u1)
@@ -78,23 +82,20 @@ module _ (b : Block) (h : BlockIn 64 64 b) where
   }
 
 -- ---- the longer side
-two : {a b : ℕ} → 64 < a * b → a ≤ 1 → b ≤ 1 → ⊥
-two m k h = omega (arith, mul-le-mul k h)
+-- of two sides with a product above 64, the one that is not the shorter
+long : {a b : ℕ} → 64 < a * b → b ≤ a → 1 < a
+long {a} m h = go (decLt 1 a)
+  where
+    go : Dec (1 < a) → 1 < a
+    go (yes d) = d
+    go (no d) = let o : a ≤ 1 = omega arith in let p = mul-le-mul o (le-trans h o) in omega arith
 
 module _ (b : Block) (e : isSmall b ≡ false) where
-  many : 64 < widthOf (uOf b) * widthOf (vOf b)
-  many = leb-false (widthOf (uOf b) * widthOf (vOf b)) 64 e
+  many : 64 < widthOf (uRange b) * widthOf (vRange b)
+  many = leb-false (widthOf (uRange b) * widthOf (vRange b)) 64 e
 
-  pub long-u : widthOf (vOf b) ≤ widthOf (uOf b) → 1 < widthOf (uOf b)
-  long-u h = go (decLt 1 (widthOf (uOf b)))
-    where
-      go : Dec (1 < widthOf (uOf b)) → 1 < widthOf (uOf b)
-      go (yes d) = d
-      go (no d) = absurd (two many (omega arith) (omega arith))
+  pub long-u : widthOf (vRange b) ≤ widthOf (uRange b) → 1 < widthOf (uRange b)
+  long-u h = long many h
 
-  pub long-v : widthOf (uOf b) < widthOf (vOf b) → 1 < widthOf (vOf b)
-  long-v h = go (decLt 1 (widthOf (vOf b)))
-    where
-      go : Dec (1 < widthOf (vOf b)) → 1 < widthOf (vOf b)
-      go (yes d) = d
-      go (no d) = absurd (two many (omega arith) (omega arith))
+  pub long-v : widthOf (uRange b) < widthOf (vRange b) → 1 < widthOf (vRange b)
+  long-v h = long (rw (mul-comm (widthOf (vRange b)) (widthOf (uRange b))) many) (le-of-lt h)

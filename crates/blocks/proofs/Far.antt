@@ -13,8 +13,8 @@ use Rattle.integers.proofs.Omega.{zarith, -!, lt-true, lt-false, le-true, true-
 use Rattle.integers.proofs.Laws.{<→≤, ≤-trans, ≤-add, pos-le}
 use Rattle.integers.proofs.Expr.{var, num, _⊗_}
 use Rattle.integers.proofs.Certificates.{le, _⊠_, by-le}
-use Rattle.ranges.specs.declared.CellRange.{CellRange}
-use Rattle.ranges.specs.Range.{inRange}
+use Rattle.grid.specs.declared.CellRange.{CellRange}
+use Rattle.grid.specs.Range.{inRange}
 use Rattle.forms.specs.Form.{edgeAt}
 use Rattle.runs.proofs.Narrow.{in-range}
 use Rattle.columns.specs.declared.Strides.{Strides}
@@ -23,7 +23,7 @@ use Rattle.columns.specs.Column.{valueAt, columnPasses, cellPasses}
 use Rattle.columns.proofs.Drawing.{nothing}
 use Rattle.columns.proofs.Cells.{cell-fails}
 use Rattle.blocks.specs.declared.Block.{Block}
-use Rattle.blocks.specs.Block.{uOf, vOf, columnsOf, farEnd, farValue, keptBy}
+use Rattle.blocks.specs.Block.{uRange, vRange, columnsOf, farEnd, farValue, keptBy}
 
 -- ---- the far end of a range
 pub before : (n : ℕ) → 0 < n → pos n -ℤ pos 1 ≡ pos (n - 1)
@@ -52,9 +52,9 @@ module _ (l : List ℤ) (b : Block) (i j : ℕ) (inside : columnsOf b i j ≡ tr
   below : (m : ℕ) → valueAt l m i j ≤ℤ farValue l m b
   below m =
       let f = edgeAt l m .uv in
-      let (hu, hv) = and-eq-true-iff (inRange (uOf b) i) (inRange (vOf b) j) .0 inside in
-      let (u0, u1) = in-range (uOf b) i hu in
-      let (v0, v1) = in-range (vOf b) j hv in
+      let (hu, hv) = and-eq-true-iff (inRange (uRange b) i) (inRange (vRange b) j) .0 inside in
+      let (u0, u1) = in-range (uRange b) i hu in
+      let (v0, v1) = in-range (vRange b) j hv in
       ≤-add (≤-add (far (f .a) (b .u0) (b .u1) i u0 u1) (far (f .b) (b .v0) (b .v1) j v0 v1)) (≤ℤ-refl (f .c))
 
   -- a value that is not negative is not below the far value

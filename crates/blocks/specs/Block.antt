@@ -6,8 +6,8 @@ use Prim.Native.Nat.{ℕ, _+_, _-_, _*_, _<_, _≤_}
 use lib.Dec.{leb}
 use lib.IntN.{ℤ, pos, _-ℤ_}
 use lib.Signed.{ltZ}
-use Rattle.ranges.specs.declared.BoxRange.{BoxRange}
-use Rattle.ranges.specs.declared.CellRange.{CellRange}
+use Rattle.grid.specs.declared.BoxRange.{BoxRange}
+use Rattle.grid.specs.declared.CellRange.{CellRange}
 use Rattle.forms.specs.Form.{edgeAt, BoundedForms}
 use Rattle.column_rule.specs.Column.{uvOf, squarePasses}
 use Rattle.pending.specs.Pending.{halvings}
@@ -16,44 +16,44 @@ use Rattle.columns.specs.Draw.{Numbers, cellsOf, range, rectangle}
 use Rattle.blocks.specs.declared.Block.{Block}
 
 -- ---- a block: its ranges on the two axes, and its columns
-abbrev pub uOf : Block → CellRange
-uOf b = range (b .u0) (b .u1)
+abbrev pub uRange : Block → CellRange
+uRange b = range (b .u0) (b .u1)
 
-abbrev pub vOf : Block → CellRange
-vOf b = range (b .v0) (b .v1)
+abbrev pub vRange : Block → CellRange
+vRange b = range (b .v0) (b .v1)
 
 abbrev pub columnsOf : Block → ℕ → ℕ → Bool
-columnsOf b = rectangle (uOf b) (vOf b)
+columnsOf b = rectangle (uRange b) (vRange b)
 
 -- How many columns a range has; the block has at most 64; how many halvings lead from it to single columns, at most.
 abbrev pub widthOf : CellRange → ℕ
 widthOf r = r .end - r .first
 
 abbrev pub isSmall : Block → Bool
-isSmall b = leb (widthOf (uOf b) * widthOf (vOf b)) 64
+isSmall b = leb (widthOf (uRange b) * widthOf (vRange b)) 64
 
 abbrev pub depthOf : Block → ℕ
-depthOf b = halvings (widthOf (uOf b)) + halvings (widthOf (vOf b))
+depthOf b = halvings (widthOf (uRange b)) + halvings (widthOf (vRange b))
 
 -- A range that is not empty, of an axis with n cells. A block of such ranges.
-pub record Side (n : ℕ) (r : CellRange) : Type 0 where
+pub record SomeCells (n : ℕ) (r : CellRange) : Type 0 where
   pub some : r .first < r .end
   pub most : r .end ≤ n
 
 pub record BlockIn (nu nv : ℕ) (b : Block) : Type 0 where
-  pub u : Side nu (uOf b)
-  pub v : Side nv (vOf b)
+  pub u : SomeCells nu (uRange b)
+  pub v : SomeCells nv (vRange b)
 
 -- ---- a block cut in two
 -- p is a part of the block b that fewer halvings cut into columns.
-pub record Part (b p : Block) : Type 0 where
+pub record SmallerPart (b p : Block) : Type 0 where
   pub inside : BlockIn (b .u1) (b .v1) p
   pub less : depthOf p < depthOf b
 
 -- The halves have the block's columns.
 pub record Halved (b low high : Block) : Type 0 where
-  pub low-part : Part b low
-  pub high-part : Part b high
+  pub low-part : SmallerPart b low
+  pub high-part : SmallerPart b high
   pub both : (i j : ℕ) → columnsOf b i j ≡ (columnsOf low i j || columnsOf high i j)
 
 -- ---- a block that an edge rules out
@@ -73,6 +73,6 @@ pub record BoxReady (l : List ℤ) (g : Strides) (bytes : ℕ) (b : BoxRange) : 
   pub forms : BoundedForms l
   pub numbers : Numbers g
   pub room : cellsOf g ≤ 8 * bytes
-  pub x : Side (g .nu) (b .x)
-  pub y : Side (g .nv) (b .y)
-  pub z : Side (g .nw) (b .z)
+  pub x : SomeCells (g .nu) (b .x)
+  pub y : SomeCells (g .nv) (b .y)
+  pub z : SomeCells (g .nw) (b .z)

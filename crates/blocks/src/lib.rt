@@ -1,8 +1,8 @@
 // Blocks of columns: a triangle's box of cells is halved across two sides, by a loop over a list of pending blocks, down to blocks whose columns are
 // looked at one by one.
 use columns::Strides;
-use ranges::BoxRange;
-use ranges::CellRange;
+use grid::BoxRange;
+use grid::CellRange;
 ghost use mathlib.Core.Path.{_≡_};
 ghost use mathlib.Core.Bool.{false};
 ghost use Prim.Native.Nat.{_+_, _/_, _<_, _≤_};
@@ -10,12 +10,12 @@ ghost use lib.IntN.{pos};
 ghost use lib.ListN.{length};
 ghost use lib.Signed.{ltZ};
 ghost use Rattle.integers.specs.Within.{Within};
-ghost use Rattle.overlap.specs.Bounds.{indexMax};
-ghost use Rattle.grid.specs.Map.{bit};
+ghost use Rattle.geometry.specs.Bounds.{indexMax};
+ghost use Rattle.map.specs.Map.{bit};
 ghost use Rattle.forms.specs.Form.{edgeAt, BoundedForm, BoundedForms};
 ghost use Rattle.columns.specs.Draw.{Draws, rectangle};
 ghost use Rattle.columns.specs.Column.{cellPasses, ColumnsReady};
-ghost use Rattle.blocks.specs.Block.{uOf, vOf, columnsOf, isSmall, BlockIn, BoxReady, Halved, farEnd, farValue, keptBy};
+ghost use Rattle.blocks.specs.Block.{uRange, vRange, columnsOf, isSmall, BlockIn, BoxReady, Halved, farEnd, farValue, keptBy};
 
 // A block of columns: those from u0 on and below u1 on one axis, and from v0 on and below v1 on the other. The numbers are at most 64, so
 // that a block takes four bytes.
@@ -88,7 +88,7 @@ fn halve(map: &mut [u8], forms: &[i64; 35], g: Strides, w: CellRange, whole: Blo
 
 // The block's columns on u.
 fn u_range(b: Block) -> CellRange
-    ensures { λ r. ⌜ r ≡ uOf b ⌝ }
+    ensures { λ r. ⌜ r ≡ uRange b ⌝ }
 {
     CellRange {
         first: b.u0 as usize,
@@ -98,7 +98,7 @@ fn u_range(b: Block) -> CellRange
 
 // The block's columns on v.
 fn v_range(b: Block) -> CellRange
-    ensures { λ r. ⌜ r ≡ vOf b ⌝ }
+    ensures { λ r. ⌜ r ≡ vRange b ⌝ }
 {
     CellRange {
         first: b.v0 as usize,

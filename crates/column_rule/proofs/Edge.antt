@@ -5,49 +5,36 @@
 -- Assumes nothing.
 use mathlib.Core.Path.{_≡_, refl, sym, ap, ap₂, _∙_, subst}
 use mathlib.Core.Logic.{_⊎_, inl, inr}
-use mathlib.Core.Bool.{Bool, true, false, cond, _&&_, and-eq-true-iff}
+use mathlib.Core.Bool.{Bool, true, false, cond, and-eq-true-iff}
 use mathlib.Core.List.{List, [], _∷_}
-use lib.IntN.{ℤ, pos, negsuc, negℤ, natAbs, _+ℤ_, _-ℤ_, _*ℤ_, zero-*ℤ, *ℤ-zero}
+use lib.IntN.{ℤ, pos, negsuc, negℤ, natAbs, _+ℤ_, _-ℤ_, _*ℤ_, zero-*ℤ}
 use lib.Signed.{_≤ℤ_, _<ℤ_, leZ, ltZ}
 use Rattle.integers.specs.Order.{minℤ, maxℤ}
-use Rattle.integers.proofs.Omega.{zarith, +!, -!, neg!, abs!, le-true, true-le}
+use Rattle.integers.proofs.Omega.{zarith, le-true}
 use Rattle.integers.proofs.Laws.{NN, ≤-or->, <→≤, ≤-antisymm, nn-mul}
+use Rattle.integers.proofs.Bounds.{abs-neg}
 use Rattle.integers.proofs.Expr.{Expr, lit, var, num, neg, _⊕_, _⊖_, _⊗_}
-use Rattle.integers.proofs.Ring.{ring, ring1}
+use Rattle.integers.proofs.Ring.{ring}
 use Rattle.integers.proofs.Certificates.{nn, le, lt, eq, ze, _⊞_, _⊠_, _⊹_, by-nn, by-nn/, by-le, by-eq, by-false}
-use Rattle.integers.proofs.MinMax.{min!, max!, min-either, max-either, min-left, min-right, max-left, max-right, min-≤-left, min-≤-right, ≤-max-left, ≤-max-right}
+use Rattle.integers.proofs.MinMax.{min-either, max-either, min-≤-left, min-≤-right, ≤-max-left, ≤-max-right}
 use Rattle.integers.proofs.Scales.{max-scale, min-scale, spread}
-use Rattle.overlap.specs.Geometry.{Point, Triangle, dot, minus, cube, xOf, yOf, zOf}
-use Rattle.overlap.specs.Rule.{normal, turned, edgeValue, planeHolds, least8, greatest8}
+use Rattle.integers.proofs.Orientation.{orientation, turned-by, orientation-nn}
+use Rattle.geometry.specs.declared.Point.{Point}
+use Rattle.geometry.specs.declared.Triangle.{Triangle}
+use Rattle.geometry.specs.Geometry.{dot, minus, cube}
+use Rattle.overlap.specs.Rule.{normal, turned, planeHolds, least8, greatest8}
 use Rattle.overlap.proofs.Corners.{least8-sum, greatest8-sum}
 
 pub turned-size : (n c : ℤ) → natAbs (turned n c) ≡ natAbs c
 turned-size n c = go (ltZ n (pos 0))
   where
     go : (k : Bool) → natAbs (cond k (negℤ c) c) ≡ natAbs c
-    go true = omega (zarith, neg! c, abs! c, abs! (negℤ c))
+    go true = abs-neg c
     go false = refl
 
 -- ---- the sign by which the rule turns an edge's normal inward
-abbrev pub sign : ℤ → ℤ
-sign n = cond (ltZ n (pos 0)) (negsuc 0) (pos 1)
-
-pub turned-by : (n c : ℤ) → turned n c ≡ sign n *ℤ c
-turned-by n c = go (ltZ n (pos 0))
-  where
-    go : (k : Bool) → cond k (negℤ c) c ≡ cond k (negsuc 0) (pos 1) *ℤ c
-    go true = ring1 (λ x. neg x) (λ x. lit (negsuc 0) ⊗ x) tt c
-    go false = ring1 (λ x. x) (λ x. num 1 ⊗ x) tt c
-
-sign-nn : (n : ℤ) → NN (sign n *ℤ n)
-sign-nn n = go (ltZ n (pos 0)) refl
-  where
-    go : (k : Bool) → ltZ n (pos 0) ≡ k → NN (cond k (negsuc 0) (pos 1) *ℤ n)
-    go true e = by-nn (n ∷ []) (lit (negsuc 0) ⊗ var 0) (le (var 0) (num 0) (omega zarith)) tt
-    go false e = by-nn (n ∷ []) (num 1 ⊗ var 0) (le (num 0) (var 0) (omega zarith)) tt
-
-sign-pos : (n : ℤ) → (n ≡ pos 0 → ⊥) → pos 0 <ℤ (sign n *ℤ n)
-sign-pos n ne = elim (≤-or-> (sign n *ℤ n) (pos 0)) [ inl h ↦ absurd (ne (go (ltZ n (pos 0)) refl h)) | inr h ↦ h ]
+orientation-pos : (n : ℤ) → (n ≡ pos 0 → ⊥) → pos 0 <ℤ (orientation n *ℤ n)
+orientation-pos n ne = elim (≤-or-> (orientation n *ℤ n) (pos 0)) [ inl h ↦ absurd (ne (go (ltZ n (pos 0)) refl h)) | inr h ↦ h ]
   where
     go : (k : Bool) → ltZ n (pos 0) ≡ k → (cond k (negsuc 0) (pos 1) *ℤ n) ≤ℤ pos 0 → n ≡ pos 0
     go true e h = absurd (by-false (n ∷ []) (le (lit (negsuc 0) ⊗ var 0) (num 0) h ⊞ lt (var 0) (num 0) (omega zarith)) tt)
@@ -114,17 +101,15 @@ module _ (d m : ℤ) where
   least-at : Multiple d m (minℤ (pos 0) (d *ℤ m))
   least-at = multiple _ (min-either (pos 0) (d *ℤ m))
 
+  -- what holds of 0 and of d · m holds at each corner
+  at-corner : (P : ℤ → Type 0) → P (pos 0) → P (d *ℤ m) → {α : ℤ} → Step d α → P (α *ℤ m)
+  at-corner P z f h = elim h [ inl e ↦ subst (λ a. P (a *ℤ m)) (sym e) (rw zero-*ℤ z) | inr e ↦ subst (λ a. P (a *ℤ m)) (sym e) f ]
+
   at-most : {α : ℤ} → Step d α → (α *ℤ m) ≤ℤ maxℤ (pos 0) (d *ℤ m)
-  at-most h = elim h [
-    | inl e ↦ subst (λ a. (a *ℤ m) ≤ℤ maxℤ (pos 0) (d *ℤ m)) (sym e) (rw zero-*ℤ (≤-max-left (pos 0) (d *ℤ m)))
-    | inr e ↦ subst (λ a. (a *ℤ m) ≤ℤ maxℤ (pos 0) (d *ℤ m)) (sym e) (≤-max-right (pos 0) (d *ℤ m))
-  ]
+  at-most = at-corner (λ z. z ≤ℤ maxℤ (pos 0) (d *ℤ m)) (≤-max-left (pos 0) (d *ℤ m)) (≤-max-right (pos 0) (d *ℤ m))
 
   at-least : {α : ℤ} → Step d α → minℤ (pos 0) (d *ℤ m) ≤ℤ (α *ℤ m)
-  at-least h = elim h [
-    | inl e ↦ subst (λ a. minℤ (pos 0) (d *ℤ m) ≤ℤ (a *ℤ m)) (sym e) (rw zero-*ℤ (min-≤-left (pos 0) (d *ℤ m)))
-    | inr e ↦ subst (λ a. minℤ (pos 0) (d *ℤ m) ≤ℤ (a *ℤ m)) (sym e) (min-≤-right (pos 0) (d *ℤ m))
-  ]
+  at-least = at-corner (λ z. minℤ (pos 0) (d *ℤ m) ≤ℤ z) (min-≤-left (pos 0) (d *ℤ m)) (min-≤-right (pos 0) (d *ℤ m))
 
 -- ---- the rule's value of an edge, over the numbers in the plane of two axes
 abbrev pub valueIn : (ma mb va vb pa pb d : ℤ) → ℤ
@@ -134,7 +119,7 @@ abbrev pub edgeIn : (n ea eb va vb pa pb d : ℤ) → ℤ
 edgeIn n ea eb va vb pa pb d = valueIn (turned n (negℤ eb)) (turned n ea) va vb pa pb d
 
 -- by its sign
-by-sign : (n ea eb va vb pa pb d : ℤ) → edgeIn n ea eb va vb pa pb d ≡ valueIn (sign n *ℤ negℤ eb) (sign n *ℤ ea) va vb pa pb d
+by-sign : (n ea eb va vb pa pb d : ℤ) → edgeIn n ea eb va vb pa pb d ≡ valueIn (orientation n *ℤ negℤ eb) (orientation n *ℤ ea) va vb pa pb d
 by-sign n ea eb va vb pa pb d = λ l. valueIn (turned-by n (negℤ eb) l) (turned-by n ea l) va vb pa pb d
 
 -- In the plane of two axes, the corner (α, β) of the box at (pa, pb).
@@ -192,17 +177,14 @@ module _ {d : ℤ} (h : pos 0 ≤ℤ d) where
       ∙ ring (d ∷ maxℤ (pos 0) m ∷ minℤ (pos 0) m ∷ []) (var 0 ⊗ var 1 ⊖ var 0 ⊗ var 2) (var 0 ⊗ (var 1 ⊖ var 2)) tt
       ∙ ap (λ (z : ℤ). d *ℤ z) (spread m)
 
-  size-of : (n c : ℤ) → natAbs (sign n *ℤ c) ≡ natAbs c
+  size-of : (n c : ℤ) → natAbs (orientation n *ℤ c) ≡ natAbs c
   size-of n c = ap natAbs (sym (turned-by n c)) ∙ turned-size n c
 
-  square-is : (n ea eb : ℤ) → let ma = sign n *ℤ negℤ eb in let mb = sign n *ℤ ea in
+  square-is : (n ea eb : ℤ) → let ma = orientation n *ℤ negℤ eb in let mb = orientation n *ℤ ea in
       maxℤ (pos 0) (d *ℤ ma) -ℤ minℤ (pos 0) (d *ℤ ma) +ℤ (maxℤ (pos 0) (d *ℤ mb) -ℤ minℤ (pos 0) (d *ℤ mb)) ≡ d *ℤ (pos (natAbs ea) +ℤ pos (natAbs eb))
   square-is n ea eb =
-      ap₂ _+ℤ_ (spread-of (sign n *ℤ negℤ eb) ∙ ap (λ k. d *ℤ pos k) (size-of n (negℤ eb) ∙ abs-negated)) (spread-of (sign n *ℤ ea) ∙ ap (λ k. d *ℤ pos k) (size-of n ea))
+      ap₂ _+ℤ_ (spread-of (orientation n *ℤ negℤ eb) ∙ ap (λ k. d *ℤ pos k) (size-of n (negℤ eb) ∙ abs-neg eb)) (spread-of (orientation n *ℤ ea) ∙ ap (λ k. d *ℤ pos k) (size-of n ea))
       ∙ ring (d ∷ pos (natAbs ea) ∷ pos (natAbs eb) ∷ []) (var 0 ⊗ var 2 ⊕ var 0 ⊗ var 1) (var 0 ⊗ (var 1 ⊕ var 2)) tt
-    where
-      abs-negated : natAbs (negℤ eb) ≡ natAbs eb
-      abs-negated = omega (zarith, neg! eb, abs! eb, abs! (negℤ eb))
 
 -- ---- the plane: of the box's corners, one has the wanted sign
 module _ (n o v p : Point) (d : ℤ) (through : dot n v ≡ dot n o) where
@@ -265,25 +247,25 @@ module _ (t : Triangle) (e v p : Point) (d : ℤ) (positive : pos 0 ≤ℤ d) (a
       (subst (λ z. z ≤ℤ pos 0) (least8-sum t p (cube d)) (le-true (least8 t p (cube d)) (pos 0) l))
       (subst (λ z. pos 0 ≤ℤ z) (greatest8-sum t p (cube d)) (le-true (pos 0) (greatest8 t p (cube d)) g))
 
-  square-at : {α β : ℤ} → Step d α → Step d β → NN (sign (n .z) *ℤ (e .x *ℤ (p .y +ℤ β -ℤ v .y) -ℤ e .y *ℤ (p .x +ℤ α -ℤ v .x)))
+  square-at : {α β : ℤ} → Step d α → Step d β → NN (orientation (n .z) *ℤ (e .x *ℤ (p .y +ℤ β -ℤ v .y) -ℤ e .y *ℤ (p .x +ℤ α -ℤ v .x)))
   square-at hα hβ =
-      square-corner (sign (n .z)) (e .x) (e .y) (v .x) (v .y) (p .x) (p .y) d hα hβ
+      square-corner (orientation (n .z)) (e .x) (e .y) (v .x) (v .y) (p .x) (p .y) d hα hβ
       (rw (square-is positive (n .z) (e .x) (e .y)) (rw (by-sign (n .z) (e .x) (e .y) (v .x) (v .y) (p .x) (p .y) d) at square))
 
   pub yz-holds : pos 0 ≤ℤ edgeIn (n .x) (e .y) (e .z) (v .y) (v .z) (p .y) (p .z) d
   yz-holds =
-      let σ = sign (n .z) in
-      let τ = sign (n .x) in
+      let σ = orientation (n .z) in
+      let τ = orientation (n .x) in
       let c = cut-by (σ *ℤ τ *ℤ e .y) in
       rw (by-sign (n .x) (e .y) (e .z) (v .y) (v .z) (p .y) (p .z) d)
       (corner-holds τ (e .y) (e .z) (v .y) (v .z) (p .y) (p .z) d (c .stepβ) (c .stepγ)
-      (gx-nn (n .x) (n .y) (n .z) (e .x) (e .y) (e .z) _ _ _ along σ τ (sign-pos (n .z) steep) (sign-nn (n .x)) (square-at (c .stepα) (c .stepβ)) (c .wanted)))
+      (gx-nn (n .x) (n .y) (n .z) (e .x) (e .y) (e .z) _ _ _ along σ τ (orientation-pos (n .z) steep) (orientation-nn (n .x)) (square-at (c .stepα) (c .stepβ)) (c .wanted)))
 
   pub zx-holds : pos 0 ≤ℤ edgeIn (n .y) (e .z) (e .x) (v .z) (v .x) (p .z) (p .x) d
   zx-holds =
-      let σ = sign (n .z) in
-      let τ = sign (n .y) in
+      let σ = orientation (n .z) in
+      let τ = orientation (n .y) in
       let c = cut-by (negℤ (σ *ℤ τ *ℤ e .x)) in
       rw (by-sign (n .y) (e .z) (e .x) (v .z) (v .x) (p .z) (p .x) d)
       (corner-holds τ (e .z) (e .x) (v .z) (v .x) (p .z) (p .x) d (c .stepγ) (c .stepα)
-      (gy-nn (n .x) (n .y) (n .z) (e .x) (e .y) (e .z) _ _ _ along σ τ (sign-pos (n .z) steep) (sign-nn (n .y)) (square-at (c .stepα) (c .stepβ)) (c .wanted)))
+      (gy-nn (n .x) (n .y) (n .z) (e .x) (e .y) (e .z) _ _ _ along σ τ (orientation-pos (n .z) steep) (orientation-nn (n .y)) (square-at (c .stepα) (c .stepβ)) (c .wanted)))

@@ -3,23 +3,25 @@
 --     column-law     beyond the boxes, the rule of a lattice's box is the column's test by the triangle's forms
 -- Assumes nothing.
 use mathlib.Core.Path.{_≡_, refl, sym, ap, ap₂, _∙_, subst}
-use mathlib.Core.Bool.{Bool, true, false, cond, _&&_, _||_, and-eq-true-iff}
+use mathlib.Core.Bool.{Bool, true, false, cond, _&&_, _||_}
 use mathlib.Core.List.{List, [], _∷_}
 use Prim.Native.Nat.{ℕ, _+_}
 use lib.IntN.{ℤ, pos, natAbs, _+ℤ_, _-ℤ_, _*ℤ_}
 use lib.Signed.{_≤ℤ_, _<ℤ_, leZ}
-use Rattle.integers.proofs.Omega.{zarith, abs!, le-true, true-le}
+use Rattle.integers.proofs.Omega.{zarith, le-true, true-le}
 use Rattle.integers.proofs.Expr.{Expr, var, num, _⊕_, _⊖_, _⊗_}
 use Rattle.integers.proofs.Ring.{ring}
-use Rattle.overlap.specs.Geometry.{Point, point, Triangle, dot, cross, minus, cube, xOf, yOf, zOf}
-use Rattle.overlap.specs.Grid.{Lattice, boxCorner}
+use Rattle.geometry.specs.declared.Point.{Point}
+use Rattle.geometry.specs.declared.Triangle.{Triangle}
+use Rattle.geometry.specs.Geometry.{point, dot, cross, minus, cube, xOf, yOf, zOf}
+use Rattle.geometry.specs.Inner.{measuredFrom}
+use Rattle.grid.specs.declared.Lattice.{Lattice}
+use Rattle.grid.specs.Grid.{boxCorner}
 use Rattle.overlap.specs.Rule.{normal, boxHolds, planeHolds, overlapsBox}
-use Rattle.overlap.specs.Vectors.{measuredFrom}
 use Rattle.forms.specs.declared.Edge.{Edge}
-use Rattle.forms.specs.declared.EdgeForm.{EdgeForm}
 use Rattle.forms.specs.Form.{insideMax}
 use Rattle.forms.specs.Triangle.{edgeForm, insideFrom, edgeBetween, planeForm}
-use Rattle.runs.specs.Run.{formAt, passes}
+use Rattle.runs.specs.Run.{passes}
 use Rattle.column_rule.specs.Column.{formsHold, uvOf, planePasses, edgePasses, columnTest}
 use Rattle.column_rule.proofs.Edge.{edgeIn, yz-holds, zx-holds}
 use Rattle.column_rule.proofs.Values.{edge-value, plane-slab}

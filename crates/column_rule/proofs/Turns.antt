@@ -4,18 +4,20 @@
 -- Assumes nothing.
 use mathlib.Core.Path.{_≡_, refl, sym, ap, ap₂, _∙_}
 use mathlib.Core.Bool.{Bool, true, false, _&&_, and-comm, and-assoc}
-use mathlib.Core.List.{List, [], _∷_}
+use mathlib.Core.List.{[], _∷_}
 use Prim.Native.Nat.{ℕ}
 use lib.IntN.{ℤ, pos, _+ℤ_, _*ℤ_}
 use lib.Signed.{leZ}
 use Rattle.integers.specs.Order.{minℤ, maxℤ}
 use Rattle.integers.proofs.Expr.{var, _⊕_}
 use Rattle.integers.proofs.Ring.{ring}
-use Rattle.overlap.specs.Geometry.{Point, Triangle, dot, minus, cube, xOf, yOf, zOf}
-use Rattle.overlap.specs.Grid.{Lattice}
+use Rattle.geometry.specs.declared.Point.{Point}
+use Rattle.geometry.specs.declared.Triangle.{Triangle}
+use Rattle.geometry.specs.Geometry.{dot, minus, cube, xOf, yOf, zOf}
+use Rattle.grid.specs.declared.Lattice.{Lattice}
 use Rattle.overlap.specs.Rule.{normal, boxHolds, planeHolds, edgesHold, overlapsBox}
 use Rattle.overlap.proofs.Corners.{least8-sum, greatest8-sum}
-use Rattle.ranges.specs.declared.BoxRange.{BoxRange}
+use Rattle.grid.specs.declared.BoxRange.{BoxRange}
 use Rattle.ranges.specs.Range.{PicksBox}
 use Rattle.column_rule.specs.Turn.{turnPoint, turnTriangle, turnLattice, turnBox}
 

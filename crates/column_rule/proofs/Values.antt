@@ -15,12 +15,16 @@ use Rattle.integers.proofs.Ring.{ring}
 use Rattle.integers.proofs.Certificates.{ze, _⊹_, by-eq}
 use Rattle.integers.proofs.MinMax.{min!, max! }
 use Rattle.integers.proofs.Scales.{max-scale, min-scale, spread}
-use Rattle.overlap.specs.Geometry.{Point, point, Triangle, dot, minus, cube}
-use Rattle.overlap.specs.Grid.{Lattice, boxCorner}
-use Rattle.overlap.specs.Rule.{normal, turned, planeHolds, least8, greatest8}
+use Rattle.geometry.specs.declared.Point.{Point}
+use Rattle.geometry.specs.declared.Triangle.{Triangle}
+use Rattle.geometry.specs.Geometry.{dot, minus, cube}
+use Rattle.grid.specs.declared.Lattice.{Lattice}
+use Rattle.grid.specs.Grid.{boxCorner}
+use Rattle.overlap.specs.Rule.{normal, turned, planeHolds}
 use Rattle.overlap.proofs.Corners.{least8-sum, greatest8-sum}
 use Rattle.forms.specs.Triangle.{edgeForm, planeForm}
-use Rattle.runs.specs.Run.{formAt, inSlab}
+use Rattle.runs.specs.Run.{formAt}
+use Rattle.runs.proofs.Narrow.{same}
 use Rattle.column_rule.specs.Column.{planePasses}
 use Rattle.column_rule.proofs.Edge.{edgeIn}
 
@@ -40,22 +44,14 @@ edge-value n ea eb va vb oa ob s {d} h i j =
 -- A is the greatest value over the box's corners and B the least; F is the slab's form.
 module _ (A B F R : ℤ) where
   slab-up : F ≡ A → F ≡ B +ℤ R → (leZ B (pos 0) && leZ (pos 0) A) ≡ (leZ (pos 0) F && leZ F R)
-  slab-up e f = and-comm (leZ B (pos 0)) (leZ (pos 0) A) ∙ ap₂ _&&_ (ap (leZ (pos 0)) (sym e)) (go (leZ B (pos 0)) refl)
-    where
-      go : (t : Bool) → leZ B (pos 0) ≡ t → t ≡ leZ F R
-      go true b = let h : leZ F R ≡ true = omega (zarith, +! B R) in sym h
-      go false b = let h : leZ F R ≡ false = omega (zarith, +! B R) in sym h
+  slab-up e f =
+      and-comm (leZ B (pos 0)) (leZ (pos 0) A)
+      ∙ ap₂ _&&_ (ap (leZ (pos 0)) (sym e)) (same (leZ B (pos 0)) (leZ F R) (λ b. omega (zarith, +! B R)) (λ b. omega (zarith, +! B R)))
 
   slab-down : F ≡ negℤ B → F ≡ R -ℤ A → (leZ B (pos 0) && leZ (pos 0) A) ≡ (leZ (pos 0) F && leZ F R)
-  slab-down e f = ap₂ _&&_ (low (leZ B (pos 0)) refl) (high (leZ (pos 0) A) refl)
-    where
-      low : (t : Bool) → leZ B (pos 0) ≡ t → t ≡ leZ (pos 0) F
-      low true b = let h : leZ (pos 0) F ≡ true = omega (zarith, neg! B) in sym h
-      low false b = let h : leZ (pos 0) F ≡ false = omega (zarith, neg! B) in sym h
-
-      high : (t : Bool) → leZ (pos 0) A ≡ t → t ≡ leZ F R
-      high true b = let h : leZ F R ≡ true = omega (zarith, -! R A) in sym h
-      high false b = let h : leZ F R ≡ false = omega (zarith, -! R A) in sym h
+  slab-down e f =
+      ap₂ _&&_ (same (leZ B (pos 0)) (leZ (pos 0) F) (λ b. omega (zarith, neg! B)) (λ b. omega (zarith, neg! B)))
+      (same (leZ (pos 0) A) (leZ F R) (λ b. omega (zarith, -! R A)) (λ b. omega (zarith, -! R A)))
 
 -- the numbers of a component of the normal
 module _ (x : ℤ) where

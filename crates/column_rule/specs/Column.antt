@@ -3,12 +3,12 @@ use mathlib.Core.Bool.{Bool, _&&_, _||_}
 use Prim.Native.Nat.{ℕ}
 use lib.IntN.{ℤ, pos, _+ℤ_, _*ℤ_}
 use lib.Signed.{leZ}
-use Rattle.overlap.specs.Geometry.{Point, cube, Triangle, xOf, yOf, zOf}
+use Rattle.geometry.specs.declared.Point.{Point}
+use Rattle.geometry.specs.declared.Triangle.{Triangle}
+use Rattle.geometry.specs.Geometry.{xOf, yOf, zOf}
 use Rattle.overlap.specs.Rule.{normal, planeHolds, edgesHold}
-use Rattle.forms.specs.declared.EdgeForm.{EdgeForm}
 use Rattle.forms.specs.declared.Edge.{Edge}
 use Rattle.forms.specs.declared.PlaneForm.{PlaneForm}
-use Rattle.forms.specs.Triangle.{edgeBetween, planeForm}
 use Rattle.runs.specs.Run.{passes, inSlab}
 
 -- What the overlap rule asks beyond the boxes: the plane, and the edges in three planes.

@@ -1,2 +1,3 @@
+-- inner
 pub mod Column
 pub mod Turn

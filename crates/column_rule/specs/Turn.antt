@@ -1,7 +1,9 @@
 -- The axes taken in turn: y, z, x. Columns along x are columns along the third axis after one turn, and columns along y after two. Definitions only.
-use Rattle.overlap.specs.Geometry.{Point, point, Triangle}
-use Rattle.overlap.specs.Grid.{Lattice}
-use Rattle.ranges.specs.declared.BoxRange.{BoxRange}
+use Rattle.geometry.specs.declared.Point.{Point}
+use Rattle.geometry.specs.declared.Triangle.{Triangle}
+use Rattle.geometry.specs.Geometry.{point}
+use Rattle.grid.specs.declared.Lattice.{Lattice}
+use Rattle.grid.specs.declared.BoxRange.{BoxRange}
 
 abbrev pub turnPoint : Point → Point
 turnPoint p = point (p .y) (p .z) (p .x)

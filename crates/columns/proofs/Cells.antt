@@ -2,6 +2,7 @@
 --     square-0, square-1, square-2       the test of a column's square
 --     next-value, value-within           an edge's value of the next column, and its bound
 --     cell-fails, ruled-out, let-in      a column that an edge rules out, and one that none rules out
+--     still-ready                        what a fill asks, after columns were drawn
 --     no-columns, more-columns           columns drawn one after the other
 --     row-more, rectangle-more           a row grows by a column, and a rectangle by a row
 -- Assumes nothing.
@@ -16,17 +17,17 @@ use lib.Dec.{eqb, lit≤}
 use lib.IntN.{ℤ, pos, _+ℤ_}
 use lib.Signed.{leZ, ltZ}
 use Rattle.integers.specs.Within.{Within}
-use Rattle.integers.proofs.Omega.{zarith, +! }
+use Rattle.integers.proofs.Omega.{zarith}
 use Rattle.integers.proofs.Expr.{var, num, _⊕_, _⊗_}
 use Rattle.integers.proofs.Ring.{ring}
 use Rattle.integers.proofs.Bounds.{within-add, within-mul, within-weaken}
-use Rattle.ranges.specs.declared.CellRange.{CellRange}
-use Rattle.ranges.specs.Range.{inRange}
+use Rattle.grid.specs.declared.CellRange.{CellRange}
+use Rattle.grid.specs.Range.{inRange}
 use Rattle.forms.specs.Form.{edgeAt, BoundedForm}
 use Rattle.column_rule.specs.Column.{uvOf, squarePasses}
 use Rattle.columns.specs.declared.Strides.{Strides}
 use Rattle.columns.specs.Draw.{oneColumn, rowOf, rectangle, range}
-use Rattle.columns.specs.Column.{valueAt, valueMax, columnPasses, cellPasses, runCells, DrawsColumns}
+use Rattle.columns.specs.Column.{valueAt, valueMax, columnPasses, cellPasses, runCells, ColumnsReady, DrawsColumns}
 use Rattle.columns.proofs.Drawing.{of-column, draws-nothing, draws-then, drawn-or}
 use Rattle.runs.proofs.Narrow.{same, in-range, range-in}
 
@@ -53,10 +54,6 @@ pub next-value : (l : List ℤ) (m a : ℕ) (v : ℤ) → uvOf (edgeAt l m) (pos
 next-value l m a v =
     let f = edgeAt l m .uv in
     ring (f .a ∷ f .b ∷ f .c ∷ pos a ∷ v ∷ []) (var 0 ⊗ var 3 ⊕ var 1 ⊗ var 4 ⊕ var 2 ⊕ var 0) (var 0 ⊗ (var 3 ⊕ num 1) ⊕ var 1 ⊗ var 4 ⊕ var 2) tt
-    ∙ ap (λ (u : ℤ). uvOf (edgeAt l m) u v) one-more
-  where
-    one-more : pos a +ℤ pos 1 ≡ pos (a + 1)
-    one-more = omega (zarith, +! (pos a) (pos 1))
 
 pub value-within : (l : List ℤ) (m i j : ℕ) → BoundedForm (edgeAt l m .uv) → i ≤ 64 → j ≤ 64 → Within valueMax (valueAt l m i j)
 value-within l m i j b hi hj =
@@ -104,6 +101,10 @@ range-more {first} {k} o x = same (inRange (range first k) x || eqb x k) (inRang
         go (l, u) (no d) = ap (λ (b : Bool). inRange (range first k) x || b) (eq-eqb x k (omega arith)) ∙ or-true (inRange (range first k) x)
 
 -- ---- a row, and a rectangle, column by column and row by row
+-- what a fill asks is there again when columns were drawn in a map of the same length
+pub still-ready : {l : List ℤ} {g : Strides} {w : CellRange} {m n hint near : ℕ} → ColumnsReady l g m w hint → n ≡ m → w .first ≤ near → near ≤ w .end → ColumnsReady l g n w near
+still-ready p e lo hi = record { forms = p .forms; numbers = p .numbers; room = rw e (p .room); ordered = p .ordered; end = p .end; low = lo; high = hi }
+
 module _ (l : List ℤ) (g : Strides) (w : CellRange) where
   pub no-columns : (cols : ℕ → ℕ → Bool) (map : List ℕ) (hint : ℕ) → ((a b : ℕ) → cols a b ≡ true → ⊥) → w .first ≤ hint → hint ≤ w .end
       → DrawsColumns l g w cols map map hint

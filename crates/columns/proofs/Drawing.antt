@@ -14,9 +14,10 @@ use native.Mathlib.Omega.{arith}
 use borrow.Author.Tests.{lt-ltb, ltb-true, eqb-true, eq-eqb}
 use lib.Dec.{eqb, ltb}
 use lib.ListN.{length}
-use Rattle.ranges.specs.Range.{inRange}
-use Rattle.grid.specs.Map.{isFilled, withFilled}
-use Rattle.grid.proofs.Filled.{filled-with, length-with}
+use Rattle.grid.specs.Range.{inRange}
+use Rattle.map.specs.Map.{isFilled}
+use Rattle.map.specs.Inner.{withFilled}
+use Rattle.map.proofs.Filled.{filled-with, length-with}
 use Rattle.columns.specs.declared.Strides.{Strides}
 use Rattle.columns.specs.Draw.{numberOf, uOf, vOf, wOf, cellsOf, Numbers, drawn, Draws, oneColumn, inRun, range}
 use Rattle.runs.proofs.Narrow.{same, in-range, range-in}

@@ -4,7 +4,7 @@
 -- Assumes nothing.
 use mathlib.Core.Path.{_≡_, sym, ap, _∙_, subst}
 use Prim.Native.Nat.{ℕ, _+_, _*_, _/_, _%_, _<_, _≤_}
-use native.Mathlib.Nat.{mul-add, mul-assoc, mul-comm, mul-le-mul, div-one, mod-eq-of-lt, div-div-eq-div-mul}
+use native.Mathlib.Nat.{mul-add, mul-assoc, mul-le-mul, div-one, mod-eq-of-lt, div-div-eq-div-mul}
 use native.Mathlib.Omega.{arith}
 use Rattle.grid.specs.Cells.{cellNumber, xOfCell, yOfCell, zOfCell}
 use Rattle.grid.proofs.Numbers.{number-lt, x-of, y-of, z-of, number-of, z-lt}

@@ -4,9 +4,9 @@ use mathlib.Core.List.{List}
 use Prim.Native.Nat.{ℕ, _*_, _^_, _≤_}
 use lib.IntN.{ℤ, pos}
 use Rattle.integers.specs.Within.{Within}
-use Rattle.overlap.specs.Bounds.{indexMax}
-use Rattle.ranges.specs.declared.CellRange.{CellRange}
-use Rattle.ranges.specs.Range.{inRange}
+use Rattle.geometry.specs.Bounds.{indexMax}
+use Rattle.grid.specs.declared.CellRange.{CellRange}
+use Rattle.grid.specs.Range.{inRange}
 use Rattle.forms.specs.Form.{edgeAt, planeAt, BoundedForms}
 use Rattle.column_rule.specs.Column.{uvOf, squarePasses, cellAlong}
 use Rattle.columns.specs.declared.Strides.{Strides}

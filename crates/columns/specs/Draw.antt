@@ -5,9 +5,9 @@ use mathlib.Core.Path.{_≡_}
 use Prim.Native.Nat.{ℕ, _+_, _*_, _/_, _%_, _<_, _≤_}
 use lib.Dec.{eqb, ltb}
 use lib.ListN.{length}
-use Rattle.ranges.specs.declared.CellRange.{CellRange}
-use Rattle.ranges.specs.Range.{inRange}
-use Rattle.grid.specs.Map.{isFilled}
+use Rattle.grid.specs.declared.CellRange.{CellRange}
+use Rattle.grid.specs.Range.{inRange}
+use Rattle.map.specs.Map.{isFilled}
 use Rattle.columns.specs.declared.Strides.{Strides}
 
 -- The number of cell (i, j, k), the places of cell n, and how many cells there are.

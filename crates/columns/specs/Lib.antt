@@ -1,2 +1,3 @@
+-- inner
 pub mod Draw
 pub mod Column

@@ -1,11 +1,11 @@
 // Columns of a grid's cells: the cells of a column that pass a triangle's forms are filled.
-use ranges::CellRange;
+use grid::CellRange;
 ghost use mathlib.Core.Path.{_≡_};
 ghost use Prim.Native.Nat.{_<_, _≤_};
 ghost use lib.ListN.{length};
 ghost use lib.IntN.{pos};
 ghost use Rattle.integers.specs.Within.{Within};
-ghost use Rattle.overlap.specs.Bounds.{indexMax};
+ghost use Rattle.geometry.specs.Bounds.{indexMax};
 ghost use Rattle.forms.specs.Form.{edgeAt, planeAt, BoundedEdge, BoundedPlane};
 ghost use Rattle.runs.specs.Run.{Narrows};
 ghost use Rattle.column_rule.specs.Column.{uvOf, planePasses, edgePasses, squarePasses};
@@ -36,7 +36,7 @@ pub fn fill_run(map: &mut [u8], g: Strides, i: usize, j: usize, run: CellRange)
     let mut k = run.first;
     while k < end {
         let n = base + sw * k;
-        grid::fill_cell(map, n);
+        map::fill_cell(map, n);
         k += 1;
     }
 }

@@ -12,63 +12,61 @@ use native.Mathlib.Omega.{arith}
 use borrow.Author.Tests.{le-leb, lt-leb, lt-ltb, le-ltb}
 use lib.Dec.{ltb}
 use lib.ListN.{length, drop, replicate}
-use Rattle.frame.specs.declared.Header.{Header}
-use Rattle.frame.specs.Fields.{headerOf}
-use Rattle.frame.specs.Layout.{version1}
-use Rattle.frame.specs.Limit.{gives, refused}
-use Rattle.frame.specs.Questions.{asked, answered, fileQuestions, checked}
+use Rattle.layout.specs.declared.Header.{Header}
+use Rattle.grid.specs.Grid.{cellCount}
+use Rattle.refusal.specs.Limit.{gives, refused}
+use Rattle.refusal.specs.Questions.{answered}
+use Rattle.refusal.specs.Inner.{asked}
+use Rattle.frame.specs.Questions.{fileQuestions, checked}
 use Rattle.frame.proofs.Accepted.{questions-refused, questions-passed, header-is}
-use Rattle.frame.proofs.Asking.{andThen, first-append, stopped, through}
-use Rattle.grid.specs.Map.{mapLength, isFilled, countBelow, mapOf}
-use Rattle.grid.proofs.Counts.{count-same}
-use Rattle.grid.proofs.Maps.{Bytes, map-is, length-cleared, cleared-in, cleared-behind}
-use Rattle.fill.specs.Steel.{gridAt, cellCount, steel, filledBy, mapQuestion, fillQuestions, filling, filledBytes}
+use Rattle.refusal.proofs.Asking.{andThen, first-append, stopped, through}
+use Rattle.map.specs.Map.{mapLength, isFilled, countBelow, mapOf}
+use Rattle.map.proofs.Counts.{count-same}
+use Rattle.map.proofs.Maps.{Bytes, map-is, length-cleared, cleared-in, cleared-behind}
+use Rattle.fill.specs.Fill.{gridOf, filledIn, mapQuestion, fillQuestions, filling, filledBytes}
 use Rattle.triangles.specs.Add.{Adds}
 
 -- ---- questions 1 to 8, of a call that gives x
 module _ {A : Type 0} (x : A) (s : List ℕ) (len : ℕ) where
-  abbrev h₀ : Header
-  h₀ = headerOf version1 s
+  in-turn : answered (fillQuestions s len) x ≡ andThen (asked (fileQuestions s)) (answered (mapQuestion (gridOf s) len ∷ []) x)
+  in-turn = first-append x (fileQuestions s) (mapQuestion (gridOf s) len ∷ [])
 
-  in-turn : answered (fillQuestions s h₀ len) x ≡ andThen (asked (fileQuestions version1 h₀ s)) (answered (mapQuestion h₀ len ∷ []) x)
-  in-turn = first-append x (fileQuestions version1 h₀ s) (mapQuestion h₀ len ∷ [])
-
-  file-refused : {n p : ℕ} → checked s ≡ refused n p → answered (fillQuestions s h₀ len) x ≡ refused n p
+  file-refused : {n p : ℕ} → checked s ≡ refused n p → answered (fillQuestions s len) x ≡ refused n p
   file-refused e = in-turn ∙ rw (questions-refused s e)
 
-  map-asked : (h : Header) → checked s ≡ gives h → answered (fillQuestions s h₀ len) x ≡ answered (mapQuestion h len ∷ []) x
-  map-asked h e = in-turn ∙ rw (questions-passed s h e) (ap (λ (y : Header). answered (mapQuestion y len ∷ []) x) (header-is s h e))
+  map-asked : (h : Header) → checked s ≡ gives h → answered (fillQuestions s len) x ≡ answered (mapQuestion (h .grid) len ∷ []) x
+  map-asked h e = in-turn ∙ rw (questions-passed s h e) (ap (λ (y : Header). answered (mapQuestion (y .grid) len ∷ []) x) (header-is s h e))
 
 -- ---- what a fill says and leaves
 module _ (s m : List ℕ) where
-  abbrev count : Header → ℕ
-  count h = countBelow (filledBy (gridAt h) (steel s h)) (cellCount h)
+  abbrev cells : ℕ
+  cells = cellCount (gridOf s)
 
-  abbrev new : Header → List ℕ
-  new h = mapOf (filledBy (gridAt h) (steel s h)) (cellCount h) ++ drop (mapLength (cellCount h)) m
+  abbrev new : List ℕ
+  new = mapOf (filledIn s) cells ++ drop (mapLength cells) m
 
   pub left-refused : {n p : ℕ} → filling s m ≡ refused n p → filledBytes s m ≡ m
   unfolding filledBytes
   left-refused e = rw e
 
-  pub left-given : {n : ℕ} → filling s m ≡ gives n → filledBytes s m ≡ new (headerOf version1 s)
+  pub left-given : {n : ℕ} → filling s m ≡ gives n → filledBytes s m ≡ new
   unfolding filledBytes
   left-given e = rw e
 
   pub fill-refused : {n p : ℕ} → checked s ≡ refused n p → (filling s m ≡ refused n p) × (filledBytes s m ≡ m)
   unfolding filling
-  fill-refused c = let e = file-refused (count (headerOf version1 s)) s (length m) c in (e, left-refused e)
+  fill-refused c = let e = file-refused (countBelow (filledIn s) cells) s (length m) c in (e, left-refused e)
 
   module _ (h : Header) (c : checked s ≡ gives h) where
-    pub fill-short : length m < mapLength (cellCount h) → (filling s m ≡ refused 8 0) × (filledBytes s m ≡ m)
+    pub fill-short : length m < mapLength (cellCount (h .grid)) → (filling s m ≡ refused 8 0) × (filledBytes s m ≡ m)
     unfolding filling
-    fill-short l = let e = map-asked (count (headerOf version1 s)) s (length m) h c ∙ stopped _ _ [] (lt-leb _ _ l) in (e, left-refused e)
+    fill-short l = let e = map-asked (countBelow (filledIn s) cells) s (length m) h c ∙ stopped _ _ [] (lt-leb _ _ l) in (e, left-refused e)
 
-    pub fill-passed : mapLength (cellCount h) ≤ length m → (filling s m ≡ gives (count h)) × (filledBytes s m ≡ new h)
+    pub fill-passed : mapLength (cellCount (h .grid)) ≤ length m → (filling s m ≡ gives (countBelow (filledIn s) cells)) × (filledBytes s m ≡ new)
     unfolding filling answered
     fill-passed l =
-        let e = map-asked (count (headerOf version1 s)) s (length m) h c ∙ through _ _ [] (le-leb _ _ l) in
-        (e ∙ ap (λ (y : Header). gives (count y)) (header-is s h c), left-given e ∙ ap new (header-is s h c))
+        let e = map-asked (countBelow (filledIn s) cells) s (length m) h c ∙ through _ _ [] (le-leb _ _ l) in
+        (e, left-given e)
 
 -- ---- the map: cells are added to an emptied one
 module _ (p : ℕ → Bool) (cells : ℕ) (old new : List ℕ) (room : mapLength cells ≤ length old)

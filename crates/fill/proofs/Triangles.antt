@@ -7,10 +7,10 @@ use mathlib.Core.Path.{_≡_, refl, sym, ap, _∙_}
 use Prim.Native.Nat.{ℕ, _+_}
 use native.Mathlib.Numerals.{add-one}
 use lib.Dec.{ltb}
-use Rattle.overlap.specs.Geometry.{Triangle}
-use Rattle.grid.specs.Map.{isFilled, tabulate}
+use Rattle.geometry.specs.declared.Triangle.{Triangle}
+use Rattle.map.specs.Map.{isFilled, tabulate}
 use Rattle.triangles.specs.Add.{Adds}
-use Rattle.fill.specs.Steel.{anyOf}
+use Rattle.fill.specs.Fill.{anyOf}
 
 any-append : {A : Type 0} (p : A → Bool) (xs ys : List A) → anyOf p (xs ++ ys) ≡ (anyOf p xs || anyOf p ys)
 unfolding anyOf

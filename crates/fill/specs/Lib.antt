@@ -1,2 +1,3 @@
-pub mod Steel
-pub mod Adds
+pub mod Fill
+-- inner
+pub mod Inner

@@ -1,18 +1,18 @@
 -- The size of what the set-up computes: of a number that is turned, and of the forms of a bounded triangle.
 -- Assumes nothing.
-use mathlib.Core.Path.{_≡_, refl}
 use mathlib.Core.Bool.{Bool, true, false, cond}
-use Prim.Native.Nat.{ℕ, _≤_, zero-le}
+use Prim.Native.Nat.{ℕ, zero-le}
 use lib.Dec.{lit≤}
-use lib.IntN.{ℤ, pos, negℤ, natAbs, _*ℤ_}
+use lib.IntN.{ℤ, pos, natAbs}
 use lib.Signed.{_≤ℤ_, leZ, ltZ}
 use Rattle.integers.specs.Within.{Within}
-use Rattle.integers.proofs.Omega.{zarith, neg! }
 use Rattle.integers.proofs.Laws.{nn-mul}
 use Rattle.integers.proofs.Bounds.{within-add, within-sub, within-mul, within-neg, within-weaken}
 use Rattle.integers.proofs.MinMax.{within-max}
-use Rattle.overlap.specs.Bounds.{offsetMax, differenceMax, normalMax, stepMax, extentMax, PointWithin, TriangleWithin}
-use Rattle.overlap.specs.Geometry.{Point, Triangle}
+use Rattle.integers.proofs.Orientation.{turned-by, orientation-nn}
+use Rattle.geometry.specs.Bounds.{offsetMax, differenceMax, normalMax, stepMax, extentMax, PointWithin, TriangleWithin}
+use Rattle.geometry.specs.declared.Point.{Point}
+use Rattle.geometry.specs.declared.Triangle.{Triangle}
 use Rattle.overlap.specs.Rule.{normal, turned}
 use Rattle.forms.specs.Form.{insideMax, BoundedForm, BoundedEdge, BoundedPlane}
 use Rattle.forms.specs.Triangle.{component, edgeForm, insideFrom, edgeBetween, planeForm, EdgeReady}
@@ -88,14 +88,7 @@ module _ {s d : ℤ} (hs : Within stepMax s) (hd : Within extentMax d) where
         u = within-mul hs x;
         v = within-mul hs y;
         w = within-mul hs z;
-        rises = nn-mul positive (upward-nn (n .z));
+        rises = nn-mul positive (rw (turned-by (n .z) (n .z)) (orientation-nn (n .z)));
         at = within-weaken (lit≤ tt) (within-sub (within-mul hd up) along);
         reach = within-weaken (lit≤ tt) (within-mul hd (within-add (within-add (within-size x) (within-size y)) z));
       }
-    where
-      upward-nn : (z : ℤ) → pos 0 ≤ℤ turned z z
-      upward-nn z = go (ltZ z (pos 0)) refl
-        where
-          go : (t : Bool) → ltZ z (pos 0) ≡ t → pos 0 ≤ℤ cond t (negℤ z) z
-          go true e = omega (zarith, neg! z)
-          go false e = omega zarith

@@ -5,6 +5,7 @@ use lib.IntN.{ℤ, pos}
 use lib.ListN.{getD}
 use lib.Signed.{_≤ℤ_}
 use Rattle.integers.specs.Within.{Within}
+use Rattle.runs.specs.Run.{slopeMax, reachMax}
 use Rattle.forms.specs.declared.EdgeForm.{EdgeForm}
 use Rattle.forms.specs.declared.Edge.{Edge}
 use Rattle.forms.specs.declared.PlaneForm.{PlaneForm}
@@ -30,15 +31,10 @@ abbrev pub formList : PlaneForm → (e0 e1 e2 : Edge) → List ℤ
 formList p e0 e1 e2 = edgeList e0 (edgeList e1 (edgeList e2 (p .u ∷ p .v ∷ p .w ∷ p .at ∷ p .reach ∷ [])))
 
 -- ---- how large the numbers may be, so that what is computed with them fits 64 bits
--- A coefficient, the constant and the reach of a plane; a coefficient and the constant of an edge; the value from which on a square is inside.
-abbrev pub planeSlopeMax : ℕ
-planeSlopeMax = 2 ^ 54
-
+-- A plane's coefficients and its reach are bounded as those of a slab in `runs`. Here its constant; a coefficient and the constant of an edge; the value from
+-- which on a square is inside.
 abbrev pub planeMax : ℕ
 planeMax = 2 ^ 62
-
-abbrev pub reachMax : ℕ
-reachMax = 2 ^ 57
 
 abbrev pub edgeSlopeMax : ℕ
 edgeSlopeMax = 2 ^ 33
@@ -61,9 +57,9 @@ pub record BoundedEdge (e : Edge) : Type 0 where
   pub inside : Within insideMax (e .inside)
 
 pub record BoundedPlane (f : PlaneForm) : Type 0 where
-  pub u : Within planeSlopeMax (f .u)
-  pub v : Within planeSlopeMax (f .v)
-  pub w : Within planeSlopeMax (f .w)
+  pub u : Within slopeMax (f .u)
+  pub v : Within slopeMax (f .v)
+  pub w : Within slopeMax (f .w)
   pub rises : pos 0 ≤ℤ f .w
   pub at : Within planeMax (f .at)
   pub reach : Within reachMax (f .reach)

@@ -5,11 +5,13 @@ use mathlib.Core.List.{List, [], _∷_}
 use mathlib.Core.Path.{_≡_}
 use Prim.Native.Nat.{ℕ}
 use lib.IntN.{ℤ, pos, negℤ, natAbs, _+ℤ_, _-ℤ_, _*ℤ_}
-use lib.Signed.{leZ, ltZ}
+use lib.Signed.{leZ}
 use Rattle.integers.specs.Within.{Within}
 use Rattle.integers.specs.Order.{maxℤ}
-use Rattle.overlap.specs.Bounds.{offsetMax, differenceMax, normalMax, stepMax, extentMax, each, PointWithin}
-use Rattle.overlap.specs.Geometry.{Point, point, minus, dot, Triangle}
+use Rattle.geometry.specs.Bounds.{offsetMax, differenceMax, normalMax, stepMax, extentMax, each, PointWithin}
+use Rattle.geometry.specs.declared.Point.{Point}
+use Rattle.geometry.specs.declared.Triangle.{Triangle}
+use Rattle.geometry.specs.Geometry.{point, minus, dot}
 use Rattle.overlap.specs.Rule.{normal, turned}
 use Rattle.forms.specs.declared.EdgeForm.{EdgeForm}
 use Rattle.forms.specs.declared.Edge.{Edge}

@@ -1,18 +1,18 @@
 // The forms of a triangle (the set-up of Schwarz and Seidel): linear functions of a cell's numbers, whose signs decide the overlap rule. The axes are
 // named u, v and w: x, y and z, or a turn of them. The numbers stand in one list, which is lent: a struct by value would be copied at each call.
-use overlap::Vector;
+use geometry::Point;
+use geometry::Triangle;
 ghost use mathlib.Core.List.{[], _∷_};
 ghost use mathlib.Core.Path.{_≡_};
 ghost use Prim.Native.Nat.{_^_, _<_};
 ghost use lib.IntN.{pos};
 ghost use lib.Signed.{_≤ℤ_};
 ghost use Rattle.integers.specs.Within.{Within, Withins};
-ghost use Rattle.overlap.specs.Bounds.{offsetMax, stepMax, extentMax, each, TriangleWithin};
-ghost use Rattle.overlap.specs.Geometry.{point};
+ghost use Rattle.geometry.specs.Bounds.{offsetMax, stepMax, extentMax, TriangleWithin};
+ghost use Rattle.geometry.specs.Geometry.{point};
 ghost use Rattle.overlap.specs.Rule.{turned, normal};
-ghost use Rattle.overlap.specs.Vectors.{pointOf, triangleOf};
-ghost use Rattle.forms.specs.Form.{edgeAt, planeAt, formList, BoundedEdge, BoundedPlane};
-ghost use Rattle.forms.specs.Triangle.{component, edgeForm, insideFrom, edgeBetween, planeForm, edgeBounds, insideBounds, planeBounds, EdgeReady, FormsFor};
+ghost use Rattle.forms.specs.Form.{formFrom, edgeAt, planeAt, formList, BoundedEdge, BoundedPlane};
+ghost use Rattle.forms.specs.Triangle.{edgeForm, insideFrom, edgeBetween, planeForm, edgeBounds, insideBounds, planeBounds, EdgeReady, FormsFor};
 
 // An edge in the plane of two axes: a cell with the numbers i and j there reaches the edge's inner side where a × i + b × j + c >= 0.
 pub struct EdgeForm {
@@ -36,29 +36,6 @@ pub struct PlaneForm {
     pub w: i64,
     pub at: i64,
     pub reach: i64,
-}
-
-// The normal's component on the third axis, from the corners in the plane of two axes.
-fn component(a0: i64, b0: i64, a1: i64, b1: i64, a2: i64, b2: i64) -> i64
-    requires { ⌜ Withins (each offsetMax 6 []) (a0 ∷ b0 ∷ a1 ∷ b1 ∷ a2 ∷ b2 ∷ []) ⌝ }
-    ensures { λ r. ⌜ r ≡ component a0 b0 a1 b1 a2 b2 ⌝ }
-{
-    let a = a1 - a0;
-    let b = b1 - b0;
-    let c = a2 - a0;
-    let d = b2 - b0;
-    a * d - b * c
-}
-
-// A triangle's normal.
-pub fn normal(v0: Vector, v1: Vector, v2: Vector) -> Vector
-    requires { ⌜ TriangleWithin offsetMax (triangleOf v0 v1 v2) ⌝ }
-    ensures { λ r. ⌜ pointOf r ≡ normal (triangleOf v0 v1 v2) ⌝ }
-{
-    let x = component(v0.y, v0.z, v1.y, v1.z, v2.y, v2.z);
-    let y = component(v0.z, v0.x, v1.z, v1.x, v2.z, v2.x);
-    let z = component(v0.x, v0.y, v1.x, v1.y, v2.x, v2.y);
-    Vector { x, y, z }
 }
 
 // c, negated when n < 0.
@@ -101,9 +78,9 @@ fn inside_from(n: i64, ea: i64, eb: i64, extent: i64) -> i64
 }
 
 // The edge from one corner to the next, where n is the normal.
-fn edge_between(n: Vector, from: Vector, to: Vector, step: i64, extent: i64) -> Edge
-    requires { ⌜ EdgeReady (pointOf n) (pointOf from) (pointOf to) step extent ⌝ }
-    ensures { λ r. ⌜ r ≡ edgeBetween (pointOf n) (pointOf from) (pointOf to) step extent ⌝ }
+fn edge_between(n: Point, from: Point, to: Point, step: i64, extent: i64) -> Edge
+    requires { ⌜ EdgeReady n from to step extent ⌝ }
+    ensures { λ r. ⌜ r ≡ edgeBetween n from to step extent ⌝ }
 {
     let px = from.x;
     let py = from.y;
@@ -155,45 +132,36 @@ fn form_list(p: PlaneForm, e0: Edge, e1: Edge, e2: Edge) -> [i64; 35]
     requires { ⌜ BoundedPlane p × BoundedEdge e0 × BoundedEdge e1 × BoundedEdge e2 ⌝ }
     ensures { λ r. ⌜ r ≡ formList p e0 e1 e2 ⌝ }
 {
-    let a = e0.uv;
-    let b = e0.vw;
-    let c = e0.wu;
-    let d = e1.uv;
-    let e = e1.vw;
-    let f = e1.wu;
-    let g = e2.uv;
-    let h = e2.vw;
-    let i = e2.wu;
     [
-        a.a,
-        a.b,
-        a.c,
-        b.a,
-        b.b,
-        b.c,
-        c.a,
-        c.b,
-        c.c,
+        e0.uv.a,
+        e0.uv.b,
+        e0.uv.c,
+        e0.vw.a,
+        e0.vw.b,
+        e0.vw.c,
+        e0.wu.a,
+        e0.wu.b,
+        e0.wu.c,
         e0.inside,
-        d.a,
-        d.b,
-        d.c,
-        e.a,
-        e.b,
-        e.c,
-        f.a,
-        f.b,
-        f.c,
+        e1.uv.a,
+        e1.uv.b,
+        e1.uv.c,
+        e1.vw.a,
+        e1.vw.b,
+        e1.vw.c,
+        e1.wu.a,
+        e1.wu.b,
+        e1.wu.c,
         e1.inside,
-        g.a,
-        g.b,
-        g.c,
-        h.a,
-        h.b,
-        h.c,
-        i.a,
-        i.b,
-        i.c,
+        e2.uv.a,
+        e2.uv.b,
+        e2.uv.c,
+        e2.vw.a,
+        e2.vw.b,
+        e2.vw.c,
+        e2.wu.a,
+        e2.wu.b,
+        e2.wu.c,
         e2.inside,
         p.u,
         p.v,
@@ -204,17 +172,13 @@ fn form_list(p: PlaneForm, e0: Edge, e1: Edge, e2: Edge) -> [i64; 35]
 }
 
 // The forms of a triangle with normal n. The corners are measured from the lowest corner of the lattice's first box.
-pub fn triangle_forms(
-    v0: Vector,
-    v1: Vector,
-    v2: Vector,
-    n: Vector,
-    step: i64,
-    extent: i64,
-) -> [i64; 35]
-    requires { ⌜ TriangleWithin offsetMax (triangleOf v0 v1 v2) × (pointOf n ≡ normal (triangleOf v0 v1 v2)) × Within stepMax step × (pos 0 ≤ℤ step) × Within extentMax extent ⌝ }
-    ensures { λ r. ⌜ FormsFor (triangleOf v0 v1 v2) step extent r ⌝ }
+pub fn triangle_forms(t: Triangle, n: Point, step: i64, extent: i64) -> [i64; 35]
+    requires { ⌜ TriangleWithin offsetMax t × (n ≡ normal t) × Within stepMax step × (pos 0 ≤ℤ step) × Within extentMax extent ⌝ }
+    ensures { λ r. ⌜ FormsFor t step extent r ⌝ }
 {
+    let v0 = t.v0;
+    let v1 = t.v1;
+    let v2 = t.v2;
     let plane = plane_form(n.x, n.y, n.z, v0.x, v0.y, v0.z, step, extent);
     let e0 = edge_between(n, v0, v1, step, extent);
     let e1 = edge_between(n, v1, v2, step, extent);
@@ -222,17 +186,24 @@ pub fn triangle_forms(
     form_list(plane, e0, e1, e2)
 }
 
-// Edge m in the plane uv.
-pub fn uv(forms: &[i64; 35], m: usize) -> EdgeForm
-    requires { ⌜ m < 3 ⌝ }
-    ensures { λ r. ⌜ r ≡ edgeAt (now (forms .entry)) m .uv ⌝ }
+// The three numbers from a place of the list on, as an edge in the plane of two axes.
+fn form_from(forms: &[i64; 35], at: usize) -> EdgeForm
+    requires { ⌜ at < 33 ⌝ }
+    ensures { λ r. ⌜ r ≡ formFrom (now (forms .entry)) at ⌝ }
 {
-    let at = 10 * m;
     EdgeForm {
         a: forms[at],
         b: forms[at + 1],
         c: forms[at + 2],
     }
+}
+
+// Edge m in the plane uv.
+pub fn uv(forms: &[i64; 35], m: usize) -> EdgeForm
+    requires { ⌜ m < 3 ⌝ }
+    ensures { λ r. ⌜ r ≡ edgeAt (now (forms .entry)) m .uv ⌝ }
+{
+    form_from(forms, 10 * m)
 }
 
 // Edge m in the plane vw.
@@ -240,12 +211,7 @@ pub fn vw(forms: &[i64; 35], m: usize) -> EdgeForm
     requires { ⌜ m < 3 ⌝ }
     ensures { λ r. ⌜ r ≡ edgeAt (now (forms .entry)) m .vw ⌝ }
 {
-    let at = 10 * m + 3;
-    EdgeForm {
-        a: forms[at],
-        b: forms[at + 1],
-        c: forms[at + 2],
-    }
+    form_from(forms, 10 * m + 3)
 }
 
 // Edge m in the plane wu.
@@ -253,12 +219,7 @@ pub fn wu(forms: &[i64; 35], m: usize) -> EdgeForm
     requires { ⌜ m < 3 ⌝ }
     ensures { λ r. ⌜ r ≡ edgeAt (now (forms .entry)) m .wu ⌝ }
 {
-    let at = 10 * m + 6;
-    EdgeForm {
-        a: forms[at],
-        b: forms[at + 1],
-        c: forms[at + 2],
-    }
+    form_from(forms, 10 * m + 6)
 }
 
 // The value of edge m's form of uv from which on a square is inside of it.

@@ -1,5 +1,1 @@
-pub mod Asking
-pub mod Bounds
 pub mod Accepted
-pub mod Limits
-pub mod Taken

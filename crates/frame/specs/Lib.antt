@@ -1,4 +1,4 @@
-pub mod Limit
-pub mod Layout
-pub mod Fields
+pub mod File
 pub mod Questions
+-- inner
+pub mod Inner

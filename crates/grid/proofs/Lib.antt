@@ -1,4 +1,2 @@
-pub mod Filled
-pub mod Counts
-pub mod Maps
 pub mod Numbers
+pub mod Usable

@@ -1,2 +1,5 @@
 pub mod Cells
-pub mod Map
+pub mod Grid
+-- inner
+pub mod Range
+pub mod Usable

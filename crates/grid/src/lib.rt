@@ -1,10 +1,63 @@
-// The map of a grid's cells (an occupancy grid), one bit a cell, in bytes that the caller lends.
+// A grid of cubic cells: the boxes of its cells, ranges of cells, a cell's number, and the points inside.
+use geometry::Point;
 ghost use mathlib.Core.Path.{_≡_};
-ghost use mathlib.Core.List.{_++_};
-ghost use Prim.Native.Nat.{_+_, _*_, _/_, _<_, _≤_, _^_, min};
-ghost use lib.ListN.{length, drop, getD, replicate};
+ghost use Prim.Native.Nat.{_≤_, _<_};
+ghost use lib.IntN.{pos, _+ℤ_, _*ℤ_};
+ghost use Rattle.integers.specs.Within.{Within};
+ghost use Rattle.geometry.specs.Bounds.{coordinateMax, stepMax};
+ghost use Rattle.grid.specs.Grid.{cellCount, latticeOf, insideOn, inside};
 ghost use Rattle.grid.specs.Cells.{cellNumber};
-ghost use Rattle.grid.specs.Map.{mapLength, isFilled, NextFilled, withFilled, countBelow, OnesOf};
+ghost use Rattle.grid.specs.Usable.{GridWithin};
+
+// nx × ny × nz cells with edge `edge`, from the point `origin` on.
+pub struct Grid {
+    pub nx: usize,
+    pub ny: usize,
+    pub nz: usize,
+    pub edge: i64,
+    pub origin: Point,
+}
+
+// The boxes of a grid's cells: the lowest corner of the first, how far apart the boxes of neighbours begin, and how large a box is.
+pub struct Lattice {
+    pub first: Point,
+    pub step: i64,
+    pub extent: i64,
+}
+
+// The cells of an axis from `first` on and below `end`.
+pub struct CellRange {
+    pub first: usize,
+    pub end: usize,
+}
+
+// A range of cells on each axis.
+pub struct BoxRange {
+    pub x: CellRange,
+    pub y: CellRange,
+    pub z: CellRange,
+}
+
+// The boxes that are the cells themselves.
+pub fn lattice_of(g: Grid) -> Lattice
+    ensures { λ r. ⌜ r ≡ latticeOf g ⌝ }
+{
+    let first = g.origin;
+    Lattice {
+        first,
+        step: g.edge,
+        extent: g.edge,
+    }
+}
+
+// How many cells there are.
+pub fn cell_count(g: Grid) -> usize
+    requires { ⌜ (g .nx ≤ 64) × (g .ny ≤ 64) × (g .nz ≤ 64) ⌝ }
+    ensures { λ r. ⌜ (r ≡ cellCount g) × (r ≤ 262144) ⌝ }
+{
+    let layer = g.nx * g.ny;
+    layer * g.nz
+}
 
 // The number of cell (i, j, k) in a grid with nx × ny cells in a layer.
 pub fn cell_number(nx: usize, ny: usize, i: usize, j: usize, k: usize) -> usize
@@ -15,130 +68,38 @@ pub fn cell_number(nx: usize, ny: usize, i: usize, j: usize, k: usize) -> usize
     i + nx * row
 }
 
-// How many bytes the map of so many cells takes.
-pub fn map_length(cells: usize) -> usize
-    requires { ⌜ cells ≤ 262144 ⌝ }
-    ensures { λ r. ⌜ r ≡ mapLength cells ⌝ }
+// Is the point in the grid's closed box?
+pub fn is_inside(g: Grid, p: Point) -> bool
+    requires { ⌜ GridWithin coordinateMax stepMax g ⌝ }
+    ensures { λ r. ⌜ r ≡ inside g p ⌝ }
 {
-    (cells + 7) / 8
-}
-
-// Whether cell n is filled.
-pub fn is_filled(map: &[u8], n: usize) -> bool
-    requires { ⌜ n < 8 * length (now map) ⌝ }
-    ensures { λ r. ⌜ r ≡ isFilled (now (map .entry)) n ⌝ }
-{
-    let byte = map[n / 8];
-    (byte >> (7 - n % 8)) % 2 == 1
-}
-
-// The first filled cell from `first` on and below `end`, or `end`. Bytes with no filled cell are passed over.
-pub fn next_filled(map: &[u8], first: usize, end: usize) -> usize
-    requires { ⌜ (first ≤ end) × (end ≤ 8 * length (now map)) ⌝ }
-    ensures { λ r. ⌜ NextFilled (now (map .entry)) first end r ⌝ }
-{
-    let mut n = first;
-    while n < end {
-        if map[n / 8] == 0 {
-            n = byte_end(n, end);
-        } else {
-            if is_filled(map, n) {
-                return n;
-            }
-            n += 1;
-        }
+    let origin = g.origin;
+    if !inside_on(origin.x, g.nx, g.edge, p.x) {
+        return false;
     }
-    n
-}
-
-// The first cell behind the byte of cell n, or `end`.
-pub fn byte_end(n: usize, end: usize) -> usize
-    requires { ⌜ n < end ⌝ }
-    ensures { λ r. ⌜ r ≡ min (n / 8 * 8 + 8) end ⌝ }
-{
-    let first = n / 8 * 8;
-    if end - first < 8 {
-        return end;
+    if !inside_on(origin.y, g.ny, g.edge, p.y) {
+        return false;
     }
-    first + 8
+    inside_on(origin.z, g.nz, g.edge, p.z)
 }
 
-// Fills cell n.
-pub fn fill_cell(map: &mut [u8], n: usize)
-    requires { ⌜ n < 8 * length (now map) ⌝ }
-    ensures { λ _. ⌜ now (map .exit) ≡ withFilled (now (map .entry)) n ⌝ }
+// On an axis, is the coordinate from the grid's origin to its far end, both included?
+fn inside_on(origin: i64, cells: usize, edge: i64, at: i64) -> bool
+    requires { ⌜ Within coordinateMax origin × (cells ≤ 64) × Within stepMax edge ⌝ }
+    ensures { λ r. ⌜ r ≡ insideOn origin (pos cells *ℤ edge) at ⌝ }
 {
-    let q = n / 8;
-    let byte = map[q];
-    map[q] = byte | (1u8 << (7 - n % 8));
-}
-
-// Empties every cell of the first len bytes.
-pub fn clear(map: &mut [u8], len: usize)
-    requires { ⌜ len ≤ length (now map) ⌝ }
-    ensures { λ _. ⌜ now (map .exit) ≡ replicate len 0 ++ drop len (now (map .entry)) ⌝ }
-{
-    let mut i = 0;
-    while i < len {
-        map[i] = 0;
-        i += 1;
+    if at < origin {
+        return false;
     }
+    let far = along(origin, cells, edge);
+    at <= far
 }
 
-// How many of the first `cells` cells are filled: whole bytes at once, then the cells of the last byte.
-pub fn count(map: &[u8], cells: usize) -> usize
-    requires { ⌜ cells ≤ 8 * length (now map) ⌝ }
-    ensures { λ r. ⌜ r ≡ countBelow (isFilled (now (map .entry))) cells ⌝ }
+// origin + i × edge
+fn along(origin: i64, i: usize, edge: i64) -> i64
+    requires { ⌜ Within coordinateMax origin × (i ≤ 64) × Within stepMax edge ⌝ }
+    ensures { λ r. ⌜ r ≡ origin +ℤ pos i *ℤ edge ⌝ }
 {
-    let whole = cells / 8;
-    let mut sum = count_bytes(map, whole);
-    let mut n = whole * 8;
-    while n < cells {
-        if is_filled(map, n) {
-            sum += 1;
-        }
-        n += 1;
-    }
-    sum
-}
-
-// How many cells of the first `len` bytes are filled: eight bytes at a time, then the bytes behind them.
-fn count_bytes(map: &[u8], len: usize) -> usize
-    requires { ⌜ (len ≤ length (now map)) × (len * 8 < 2 ^ 64) ⌝ }
-    ensures { λ r. ⌜ (r ≡ countBelow (isFilled (now (map .entry))) (len * 8)) × (r ≤ len * 8) ⌝ }
-{
-    let mut sum: usize = 0;
-    let mut i = 0;
-    while i + 8 <= len {
-        let w = word(map, i);
-        if w != 0 {
-            sum += u64::count_ones(w) as usize;
-        }
-        i += 8;
-    }
-    while i < len {
-        sum += u8::count_ones(map[i]) as usize;
-        i += 1;
-    }
-    sum
-}
-
-// The eight bytes from byte i on, as one number, the first lowest: it has a one for each filled cell of theirs.
-fn word(map: &[u8], i: usize) -> u64
-    requires { ⌜ i + 8 ≤ length (now map) ⌝ }
-    ensures { λ r. ⌜ OnesOf (now (map .entry)) i (i + 8) r ⌝ }
-{
-    let a = byte(map, i + 1) * 256 + byte(map, i);
-    let b = byte(map, i + 3) * 256 + byte(map, i + 2);
-    let c = byte(map, i + 5) * 256 + byte(map, i + 4);
-    let d = byte(map, i + 7) * 256 + byte(map, i + 6);
-    ((d * 65536 + c) * 65536 + b) * 65536 + a
-}
-
-// Byte i, as a number to compute with.
-fn byte(map: &[u8], i: usize) -> u64
-    requires { ⌜ i < length (now map) ⌝ }
-    ensures { λ r. ⌜ (r ≡ getD (now (map .entry)) i 0) × (r < 256) ⌝ }
-{
-    map[i] as u64
+    let offset = integers::from_index(i) * edge;
+    origin + offset
 }

@@ -17,9 +17,6 @@ use Rattle.integers.proofs.Omega.{zarith, +!, -!, neg!, abs!, mag! }
 pub within-of : {B : ℕ} {z : ℤ} → negℤ (pos B) ≤ℤ z → z ≤ℤ pos B → Within B z
 within-of {B} {z} h k = record { within = omega (zarith, abs! z, neg! (pos B)) }
 
-pub within-low : {B : ℕ} {z : ℤ} → Within B z → negℤ (pos B) ≤ℤ z
-within-low {B} {z} h = omega (zarith, abs! z, neg! (pos B))
-
 pub within-high : {B : ℕ} {z : ℤ} → Within B z → z ≤ℤ pos B
 within-high {z = z} h = omega (zarith, abs! z)
 

@@ -1,5 +1,5 @@
 -- Inequalities of integers by certificate. A `Fact ρ` is an expression with a proof that its value at ρ is not negative. Facts are made of hypotheses
--- (`nn`, `le`, `lt`, `eq`), of naturals (`nat`) and squares (`sq`), and of sums (`⊞`), products (`⊠`) and multiples (`·`) of facts.
+-- (`nn`, `le`, `lt`, `eq`), of naturals (`nat`) and squares (`sq`), and of sums (`⊞`) and products (`⊠`) of facts.
 -- `by-le ρ a b f tt` proves a ≤ b, where b − a is the fact f and a natural number more, as the ring solver finds.
 --     means : (x y : ℤ) → (pos 2 *ℤ x *ℤ y) ≤ℤ (x *ℤ x +ℤ y *ℤ y)
 --     means x y = let X = var 0 in let Y = var 1 in by-le (x ∷ y ∷ []) (num 2 ⊗ X ⊗ Y) (X ⊗ X ⊕ Y ⊗ Y) (sq (X ⊖ Y)) tt
@@ -9,8 +9,7 @@ use mathlib.Core.List.{List, []}
 use Prim.Native.Nat.{ℕ, zero}
 use lib.IntN.{ℤ, pos, negsuc, _+ℤ_, _-ℤ_, _*ℤ_, *ℤ-zero, -ℤ-+ℤ-cancel, +ℤ-idl}
 use lib.Signed.{_≤ℤ_, _<ℤ_}
-use Rattle.integers.proofs.Laws.{NN, nn-pos, nn-zero, nn-add, nn-mul, nn-sq, ≤→nn, nn→≤, <→nn, nn→<, <→≤, <-mul, cancel-pos}
-use Rattle.integers.proofs.Laws.{eq→sub-zero, sub-zero→eq}
+use Rattle.integers.proofs.Laws.{NN, nn-pos, nn-zero, nn-add, nn-mul, nn-sq, ≤→nn, nn→≤, <→nn, nn→<, <→≤, cancel-pos, eq→sub-zero, sub-zero→eq}
 use Rattle.integers.proofs.Expr.{Expr, num, _⊕_, _⊖_, _⊗_, eval}
 use Rattle.integers.proofs.Ring.{Poly, const, horner, ev, norm, norm-sound, terms, Left, Same, ring}
 
@@ -42,15 +41,12 @@ abbrev pub nat : {ρ : List ℤ} → ℕ → Fact ρ
 nat n = record { e = num n; ok = nn-pos n }
 
 infixl 6 _⊞_
-infixl 7 _⊠_ _·_
+infixl 7 _⊠_
 abbrev pub _⊞_ : {ρ : List ℤ} → Fact ρ → Fact ρ → Fact ρ
 f ⊞ g = record { e = f .e ⊕ g .e; ok = nn-add (f .ok) (g .ok) }
 
 abbrev pub _⊠_ : {ρ : List ℤ} → Fact ρ → Fact ρ → Fact ρ
 f ⊠ g = record { e = f .e ⊗ g .e; ok = nn-mul (f .ok) (g .ok) }
-
-abbrev pub _·_ : {ρ : List ℤ} → ℕ → Fact ρ → Fact ρ
-n · f = record { e = num n ⊗ f .e; ok = nn-mul (nn-pos n) (f .ok) }
 
 -- ---- what is positive
 pub record Pos (ρ : List ℤ) : Type 0 where
@@ -59,10 +55,6 @@ pub record Pos (ρ : List ℤ) : Type 0 where
 
 abbrev pub ps : {ρ : List ℤ} (e : Expr) → pos zero <ℤ eval ρ e → Pos ρ
 ps e h = record { e = e; ok = h }
-
-infixl 7 _⊠⁺_
-abbrev pub _⊠⁺_ : {ρ : List ℤ} → Pos ρ → Pos ρ → Pos ρ
-f ⊠⁺ g = record { e = f .e ⊗ g .e; ok = <-mul (f .ok) (g .ok) }
 
 -- as a fact: it is not negative, also when 1 is taken off
 abbrev pub weak : {ρ : List ℤ} → Pos ρ → Fact ρ

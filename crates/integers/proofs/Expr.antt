@@ -1,5 +1,5 @@
--- Integer expressions as data, with variables by number. One type serves the ring solver (`Ring`), the certificates of inequalities (`Certificates`),
--- omega (`OmegaExpr`) and the needs of signed code (`Machine`). The values of the variables are a list ρ, so that of
+-- Integer expressions as data, with variables by number. One type serves the ring solver (`Ring`), the certificates of inequalities (`Certificates`)
+-- and the needs of signed code (`Machine`). The values of the variables are a list ρ, so that of
 --     eval (x ∷ y ∷ []) ((var 0 ⊕ num 2) ⊗ var 1)
 -- antt computes `(x +ℤ pos 2) *ℤ y`. An expression brackets as the statement that it stands for.
 use mathlib.Core.List.{List}

@@ -1,17 +1,16 @@
 -- The ring laws and the order laws of ℤ that `lib.IntN` and `lib.Signed` leave out. `NN z` says that z is not negative: `a ≤ℤ b` is `NN (b -ℤ a)`.
---     twice : (a b : ℤ) → a ≤ℤ b → (pos 2 *ℤ a) ≤ℤ (pos 2 *ℤ b)
---     twice a b h = ≤-mul-l (pos 2) (nn-pos 2) h
+--     more : (a b : ℤ) → NN a → NN b → NN (a *ℤ b +ℤ b)
+--     more a b h k = nn-add (nn-mul h k) k
 -- The library's `_≤ℤ_` and `_<ℤ_` bind tighter than `_+ℤ_` and `_*ℤ_`: write sums and products beside them in parentheses.
 use mathlib.Core.Path.{_≡_, refl, sym, _∙_, ap, ap₂, subst}
 use mathlib.Core.Logic.{_⊎_, inl, inr}
-use mathlib.Core.Bool.{Bool, true, false, not}
+use mathlib.Core.Bool.{Bool, true, false}
 use Prim.Native.Nat.{ℕ, zero, suc, _*_, _≤_, _<_}
 use native.Mathlib.Omega.{arith}
 use lib.Dec.{T, lt→ltb}
-use lib.IntN.{ℤ, pos, negsuc, sucℤ, predℤ, negℤ, _+ℤ_, _-ℤ_, _*ℤ_}
-use lib.IntN.{+ℤ-idl, +ℤ-assoc, +ℤ-comm, +ℤ-invr, sucℤ-+ℤ, predℤ-+ℤ, sucℤ-*ℤ, predℤ-*ℤ, *ℤ-comm, zero-*ℤ}
-use lib.Signed.{_≤ℤ_, _<ℤ_, leZ, ltZ, ltZ-yes, clashℤ}
-use Rattle.integers.proofs.Omega.{above, zarith, +!, -!, neg!, abs! }
+use lib.IntN.{ℤ, pos, negsuc, sucℤ, predℤ, negℤ, _+ℤ_, _-ℤ_, _*ℤ_, +ℤ-idl, +ℤ-assoc, +ℤ-comm, +ℤ-invr, sucℤ-+ℤ, predℤ-+ℤ, sucℤ-*ℤ, predℤ-*ℤ, *ℤ-comm, zero-*ℤ}
+use lib.Signed.{_≤ℤ_, _<ℤ_, leZ, ltZ, ltZ-yes}
+use Rattle.integers.proofs.Omega.{zarith, +!, -!, neg! }
 
 -- ---- sums
 pub +-left-comm : (a b c : ℤ) → a +ℤ (b +ℤ c) ≡ b +ℤ (a +ℤ c)
@@ -86,13 +85,6 @@ pub ≤-of-eq : {a b : ℤ} → a ≡ b → a ≤ℤ b
 pub <→≤ : {a b : ℤ} → a <ℤ b → a ≤ℤ b
 <→≤ h = omega zarith
 
-pub leZ-no : {a b : ℤ} → T (not (leZ a b)) → b <ℤ a
-leZ-no {a} {b} t = go (leZ a b) refl t
-  where
-    go : (c : Bool) → leZ a b ≡ c → T (not c) → b <ℤ a
-    go true e t = absurd t
-    go false e t = omega zarith
-
 pub ≤-or-> : (a b : ℤ) → (a ≤ℤ b) ⊎ (b <ℤ a)
 ≤-or-> a b = go (leZ a b) refl
   where
@@ -100,19 +92,9 @@ pub ≤-or-> : (a b : ℤ) → (a ≤ℤ b) ⊎ (b <ℤ a)
     go true e = inl (omega zarith)
     go false e = inr (omega zarith)
 
-pub ≤-dec : (a b : ℤ) → Dec (a ≤ℤ b)
-≤-dec a b = go (≤-or-> a b)
-  where
-    go : (a ≤ℤ b) ⊎ (b <ℤ a) → Dec (a ≤ℤ b)
-    go (inl h) = yes h
-    go (inr h) = no (λ k. clashℤ h k)
-
 -- ---- naturals within the integers
 pub pos-le : {m n : ℕ} → m ≤ n → pos m ≤ℤ pos n
 pos-le h = omega zarith
-
-pub le-pos : {m n : ℕ} → pos m ≤ℤ pos n → m ≤ n
-le-pos h = omega zarith
 
 pub pos-lt : {m n : ℕ} → m < n → pos m <ℤ pos n
 pos-lt h = omega zarith
@@ -126,16 +108,7 @@ nn-pos n = omega zarith
 pub nn-zero : {a : ℤ} → a ≡ pos zero → NN a
 nn-zero e = omega zarith
 
-pub nat-of : (z : ℤ) → NN z → (n : ℕ) × (z ≡ pos n)
-nat-of z h = (above z, omega (zarith, abs! z))
-
--- ---- an order as a natural difference
-pub ≤-plus : (a : ℤ) (n : ℕ) → a ≤ℤ (a +ℤ pos n)
-≤-plus a n = omega (zarith, +! a (pos n))
-
-pub ≤-diff : {a b : ℤ} → a ≤ℤ b → (n : ℕ) × (b ≡ a +ℤ pos n)
-≤-diff {a} {b} h = (above (b -ℤ a), omega (zarith, -! b a, abs! (b -ℤ a), +! a (pos (above (b -ℤ a)))))
-
+-- ---- an order as a difference that is not negative
 pub ≤→nn : {a b : ℤ} → a ≤ℤ b → NN (b -ℤ a)
 ≤→nn {a} {b} h = omega (zarith, -! b a)
 
@@ -193,12 +166,3 @@ cancel-pos {d} {a} h k = go (≤-or-> (pos zero) a)
 
 pub ≤-add : {a b c d : ℤ} → a ≤ℤ b → c ≤ℤ d → (a +ℤ c) ≤ℤ (b +ℤ d)
 ≤-add {a} {b} {c} {d} h k = omega (zarith, +! a c, +! b d)
-
-sub-* : (c a b : ℤ) → c *ℤ (b -ℤ a) ≡ c *ℤ b -ℤ c *ℤ a
-sub-* c a b = *-distrib-l c b (negℤ a) ∙ ap (λ x. c *ℤ b +ℤ x) (neg-*-r c a)
-
-pub ≤-mul-l : {a b : ℤ} (c : ℤ) → NN c → a ≤ℤ b → (c *ℤ a) ≤ℤ (c *ℤ b)
-≤-mul-l {a} {b} c hc h = nn→≤ (subst NN (sub-* c a b) (nn-mul hc (≤→nn h)))
-
-pub ≤-cancel-l : {a b : ℤ} (c : ℤ) → pos zero <ℤ c → (c *ℤ a) ≤ℤ (c *ℤ b) → a ≤ℤ b
-≤-cancel-l {a} {b} c hc h = nn→≤ (cancel-pos hc (subst NN (sym (sub-* c a b)) (≤→nn h)))

@@ -7,9 +7,8 @@ pub mod Laws
 pub mod Expr
 -- Equations of expressions: the ring solver.
 pub mod Ring
--- Inequalities of expressions, by certificate and by `omega`.
+-- Inequalities of expressions, by certificate.
 pub mod Certificates
-pub mod OmegaExpr
 -- Bounds on the size of a number, which compose.
 pub mod Bounds
 -- What signed code asks of a proof: operations, casts, quotients.
@@ -20,3 +19,5 @@ pub mod Quotients
 pub mod MinMax
 -- The greater and the lesser of 0 and a multiple.
 pub mod Scales
+-- A number's sign.
+pub mod Orientation

@@ -1,12 +1,15 @@
 -- The lesser and the greater of two integers. `min! a b` and `max! a b` tell omega all there is to say of them:
 --     clamp : (l x h : ℤ) → l ≤ℤ h → maxℤ l (minℤ x h) ≤ℤ h
 --     clamp l x h p = omega (zarith, min! x h, max! l (minℤ x h))
-use mathlib.Core.Path.{_≡_, refl}
+use mathlib.Core.Path.{_≡_, refl, sym, ap, ap₂, _∙_}
 use mathlib.Core.Bool.{Bool, true, false, cond}
 use mathlib.Core.Logic.{_⊎_, inl, inr}
 use Prim.Native.Nat.{ℕ, _+_, min, max}
 use lib.IntN.{ℤ}
 use lib.Signed.{_≤ℤ_, _<ℤ_, leZ}
+use mir.Syntax.{Width}
+use mir.Val.{SFits, toZ, ofZ}
+use mir.Facts.{toZ-ofZ}
 use Rattle.integers.specs.Within.{Within}
 use Rattle.integers.specs.Order.{minℤ, maxℤ}
 use Rattle.integers.proofs.Omega.{above, below, zarith}
@@ -18,6 +21,11 @@ choice P a b x y f g = go (leZ a b) refl
     go : (t : Bool) → leZ a b ≡ t → P (cond t x y)
     go true e = f (omega zarith)
     go false e = g (omega zarith)
+
+-- the same as code makes it: from the test's answer t, the one of x and y that it returns is the choice
+pub chosen : {w : Width} {a b : ℤ} {t : Bool} (x y : ℤ) → SFits w a → SFits w b → leZ (toZ w (ofZ w a)) (toZ w (ofZ w b)) ≡ t
+    → SFits w (cond t x y) → toZ w (ofZ w (cond t x y)) ≡ cond (leZ a b) x y
+chosen x y f g e h = toZ-ofZ h ∙ ap (λ (t : Bool). cond t x y) (sym e ∙ ap₂ leZ (toZ-ofZ f) (toZ-ofZ g))
 
 module _ (a b : ℤ) where
   pub min! : above (minℤ a b) + (below a + below b) ≡ min (above a + below b) (above b + below a) + below (minℤ a b)
@@ -61,9 +69,6 @@ module _ (a b : ℤ) where
 
   pub ≤-max-right : b ≤ℤ maxℤ a b
   ≤-max-right = omega (zarith, max!)
-
-  pub max-≤ : {c : ℤ} → a ≤ℤ c → b ≤ℤ c → maxℤ a b ≤ℤ c
-  max-≤ h k = omega (zarith, max!)
 
   pub max-either : (maxℤ a b ≡ a) ⊎ (maxℤ a b ≡ b)
   max-either = choice (λ z. (z ≡ a) ⊎ (z ≡ b)) a b b a (λ h. inr refl) (λ h. inl refl)

@@ -8,13 +8,13 @@
 --     shift x y z h = omega (zarith, -! x y, +! y z)
 use mathlib.Core.Path.{_≡_, refl, ap, subst}
 use mathlib.Core.Bool.{Bool, true, false, not, cond}
-use Prim.Native.Nat.{ℕ, zero, suc, _+_, _*_, _-_, _≤_, _<_, min}
+use Prim.Native.Nat.{ℕ, zero, suc, _+_, _-_, _≤_, _<_, min}
 use native.Mathlib.Nat.{lt-of-not-le, le-of-suc-le-suc}
 use native.Mathlib.Omega.{arith}
 use borrow.Author.Tests.{not-true}
 use denote.Floats.{passes, is-true}
 use lib.Dec.{T, not-T, ltb, ltb→lt, lt→ltb, nltb→le, leb→le, le→leb}
-use lib.IntN.{ℤ, pos, negsuc, negℤ, natAbs, subℕ, _+ℤ_, _-ℤ_, _*ℤ_}
+use lib.IntN.{ℤ, pos, negsuc, negℤ, natAbs, subℕ, _+ℤ_, _-ℤ_}
 use lib.Signed.{_≤ℤ_, _<ℤ_, leZ, ltZ, mag, leZ-yes, ltZ-yes}
 
 abbrev pub above : ℤ → ℕ
@@ -128,12 +128,6 @@ neg! (negsuc n) = (refl, refl)
 
 pub -! : (x y : ℤ) → above (x -ℤ y) + (below x + above y) ≡ (above x + below y) + below (x -ℤ y)
 -! x y = omega (arith, +! x (negℤ y), neg! y)
-
-pub *! : (x y : ℤ) → above (x *ℤ y) + (above x * below y + below x * above y) ≡ (above x * above y + below x * below y) + below (x *ℤ y)
-*! (pos a) (pos b) = omega arith
-*! (pos a) (negsuc b) = omega (arith, neg! (pos (a * suc b)))
-*! (negsuc a) (pos b) = omega (arith, neg! (pos (suc a * b)))
-*! (negsuc a) (negsuc b) = omega arith
 
 pub abs! : (x : ℤ) → (natAbs x ≡ above x + below x) × (min (above x) (below x) ≡ 0)
 abs! (pos n) = omega arith

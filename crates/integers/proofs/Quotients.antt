@@ -1,21 +1,20 @@
 -- The quotient that the machine computes, which is rounded toward 0, its remainder, and from these the quotient that is rounded down, `Floor x d q`.
---     half : (x q : ℤ) → Floor x (pos 2) q → Floor x (pos 2) (pos 3) → q ≡ pos 3
---     half x q f g = floor-unique (pos-lt (lit< tt)) f g
+--     half : (x q : ℤ) → Floor x (pos 2) q → pos 6 ≤ℤ x → pos 3 ≤ℤ q
+--     half x q f h = ≤-floor (pos-lt (lit< tt)) f h
 use mathlib.Core.Path.{_≡_, _∙_, sym, ap}
 use mathlib.Core.Logic.{_⊎_, inl, inr}
 use mathlib.Core.List.{List, [], _∷_}
 use Prim.Native.Nat.{ℕ, suc, _+_, _*_, _/_, _%_, _≤_, _<_}
-use native.Mathlib.Nat.{le-trans, lt-of-le-of-lt, div-le-self, mod-le, mod-lt, mul-comm, div-add-mod'}
+use native.Mathlib.Nat.{lt-of-le-of-lt, div-le-self, mod-lt, mul-comm, div-add-mod'}
 use native.Mathlib.Omega.{arith}
 use lib.Dec.{ltb→lt}
 use lib.IntN.{ℤ, pos, negsuc, negℤ, natAbs, _+ℤ_, _-ℤ_, _*ℤ_, negℤ-negℤ, negℤ-+ℤ}
 use lib.Signed.{_≤ℤ_, _<ℤ_, mag, mag-rem, quotZ, remZ}
 use mir.Syntax.{Width}
 use mir.Val.{SFits, ofZ}
-use Rattle.integers.specs.Within.{Within}
-use Rattle.integers.specs.Order.{Floor}
+use Rattle.integers.specs.Inner.{Floor}
 use Rattle.integers.proofs.Omega.{zarith, neg!, abs!, mag! }
-use Rattle.integers.proofs.Laws.{neg-*-r, ≤-antisymm, ≤-or->}
+use Rattle.integers.proofs.Laws.{neg-*-r, ≤-or->}
 use Rattle.integers.proofs.Bounds.{abs-neg}
 use Rattle.integers.proofs.Expr.{Expr, lit, var, num, _⊕_, _⊖_, _⊗_, neg}
 use Rattle.integers.proofs.Certificates.{le, lt, eq, ps, weak, strict, _⊞_, _⊠_, by-le, by-lt, by-false}
@@ -39,22 +38,6 @@ quot-rem (negsuc a) (negsuc n) = below-zero (suc a) (suc n)
 pub rem-lt : (x d : ℤ) → 0 < natAbs d → natAbs (remZ x d) < natAbs d
 rem-lt (pos a) d h = mod-lt a h
 rem-lt (negsuc a) d h = rw (abs-neg (pos (suc a % natAbs d))) (mod-lt (suc a) h)
-
-pub rem-within : {B : ℕ} (x d : ℤ) → Within B x → Within B (remZ x d)
-rem-within x d h = record { within = le-trans (go x) (h .within) }
-  where
-    go : (x : ℤ) → natAbs (remZ x d) ≤ natAbs x
-    go (pos a) = mod-le a (natAbs d)
-    go (negsuc a) = rw (abs-neg (pos (suc a % natAbs d))) (mod-le (suc a) (natAbs d))
-
-pub quot-within : {B : ℕ} (x d : ℤ) → Within B x → Within B (quotZ x d)
-quot-within x d h = record { within = le-trans (go x d) (h .within) }
-  where
-    go : (x d : ℤ) → natAbs (quotZ x d) ≤ natAbs x
-    go (pos a) (pos b) = div-le-self a b
-    go (pos a) (negsuc b) = rw (abs-neg (pos (a / suc b))) (div-le-self a (suc b))
-    go (negsuc a) (pos b) = rw (abs-neg (pos (suc a / b))) (div-le-self (suc a) b)
-    go (negsuc a) (negsuc b) = div-le-self (suc a) (suc b)
 
 -- ---- what the machine asks of a division by a positive number
 pub divisor-pos : (w : Width) (d : ℤ) → pos 0 <ℤ d → 0 < ofZ w d
@@ -126,9 +109,6 @@ pub ≤-floor : {x d q k : ℤ} → pos 0 <ℤ d → Floor x d q → (d *ℤ k) 
 pub floor-≤ : {x d q k : ℤ} → pos 0 <ℤ d → Floor x d q → k ≤ℤ q → (d *ℤ k) ≤ℤ x
 floor-≤ {x} {d} {q} {k} h f l =
     by-le (x ∷ d ∷ q ∷ k ∷ []) (D ⊗ K) X (weak (ps D h) ⊠ le K Q l ⊞ le (D ⊗ Q) X (f .low)) tt
-
-pub floor-unique : {x d q q′ : ℤ} → pos 0 <ℤ d → Floor x d q → Floor x d q′ → q ≡ q′
-floor-unique h f g = ≤-antisymm (≤-floor h g (f .low)) (≤-floor h f (g .low))
 
 -- the quotient lies between 0 and x, or between x and −1
 pub floor-fits : {w : Width} {x q : ℤ} (d : ℤ) → pos 0 <ℤ d → Floor x d q → SFits w x → SFits w q

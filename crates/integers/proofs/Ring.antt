@@ -220,10 +220,6 @@ pub ring2 : (f g : Expr → Expr → Expr) → Same (f (var 0) (var 1)) (g (var 
     → (x y : ℤ) → eval (x ∷ y ∷ []) (f (var 0) (var 1)) ≡ eval (x ∷ y ∷ []) (g (var 0) (var 1))
 ring2 f g t x y = ring (x ∷ y ∷ []) (f (var 0) (var 1)) (g (var 0) (var 1)) t
 
-pub ring3 : (f g : Expr → Expr → Expr → Expr) → Same (f (var 0) (var 1) (var 2)) (g (var 0) (var 1) (var 2))
-    → (x y z : ℤ) → eval (x ∷ y ∷ z ∷ []) (f (var 0) (var 1) (var 2)) ≡ eval (x ∷ y ∷ z ∷ []) (g (var 0) (var 1) (var 2))
-ring3 f g t x y z = ring (x ∷ y ∷ z ∷ []) (f (var 0) (var 1) (var 2)) (g (var 0) (var 1) (var 2)) t
-
 pub ring4 : (f g : Expr → Expr → Expr → Expr → Expr) → Same (f (var 0) (var 1) (var 2) (var 3)) (g (var 0) (var 1) (var 2) (var 3))
     → (x y z w : ℤ) → eval (x ∷ y ∷ z ∷ w ∷ []) (f (var 0) (var 1) (var 2) (var 3)) ≡ eval (x ∷ y ∷ z ∷ w ∷ []) (g (var 0) (var 1) (var 2) (var 3))
 ring4 f g t x y z w = ring (x ∷ y ∷ z ∷ w ∷ []) (f (var 0) (var 1) (var 2) (var 3)) (g (var 0) (var 1) (var 2) (var 3)) t

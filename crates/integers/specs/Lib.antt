@@ -1,2 +1,4 @@
-pub mod Within
 pub mod Order
+-- inner
+pub mod Within
+pub mod Inner

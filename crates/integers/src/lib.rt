@@ -5,7 +5,8 @@ ghost use lib.IntN.{pos, natAbs};
 ghost use lib.ListN.{length, getD};
 ghost use lib.Signed.{_≤ℤ_, _<ℤ_};
 ghost use Rattle.integers.specs.Within.{Within};
-ghost use Rattle.integers.specs.Order.{minℤ, maxℤ, Floor};
+ghost use Rattle.integers.specs.Order.{minℤ, maxℤ};
+ghost use Rattle.integers.specs.Inner.{Floor};
 
 // The lesser of two numbers. A call keeps the branch out of the caller's proof.
 pub fn min(a: i64, b: i64) -> i64

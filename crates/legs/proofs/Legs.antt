@@ -17,12 +17,17 @@ use Rattle.integers.proofs.Ring.{ring, ring2}
 use Rattle.integers.proofs.Certificates.{Zero, ze, _⊹_, by-eq}
 use Rattle.integers.proofs.MinMax.{max!, max-left, max-right}
 use Rattle.integers.proofs.Scales.{max-scale}
-use Rattle.overlap.specs.Geometry.{Point, point, minus, dot, Triangle, leg, xOf, yOf, zOf, cube}
-use Rattle.overlap.specs.Grid.{Lattice, boxCorner}
+use Rattle.geometry.specs.declared.Point.{Point}
+use Rattle.geometry.specs.declared.Triangle.{Triangle}
+use Rattle.geometry.specs.Geometry.{point, minus, dot, leg, xOf, yOf, zOf, cube}
+use Rattle.grid.specs.declared.Lattice.{Lattice}
+use Rattle.grid.specs.Grid.{boxCorner}
 use Rattle.overlap.specs.Rule.{normal, boxHolds, planeHolds, edgesHold, overlapsBox}
 use Rattle.overlap.proofs.Corners.{least8-sum, greatest8-sum}
-use Rattle.ranges.specs.declared.BoxRange.{BoxRange}
-use Rattle.ranges.specs.Range.{inRange, PicksBox}
+use Rattle.grid.specs.declared.BoxRange.{BoxRange}
+use Rattle.grid.specs.Range.{inRange}
+use Rattle.ranges.specs.Range.{PicksBox}
+use Rattle.runs.proofs.Narrow.{same}
 use Rattle.legs.specs.declared.Slab.{Slab}
 use Rattle.legs.specs.Slab.{risingSlab, slabOf, slabsOf, formOf, slabHolds, rowHolds, cellHolds}
 
@@ -84,11 +89,7 @@ module _ (ea eb va vb oa ob step d i j : ℤ) (down : eb ≤ℤ pos 0) (h : NN d
       ap₂ _&&_ (ap (leZ (pos 0)) (ahead wa wb p)) (ap (leZ (pos 0)) (back ua ub q) ∙ below-reach (formOf s i j) (s .reach))
     where
       below-reach : (x r : ℤ) → leZ (pos 0) (r -ℤ x) ≡ leZ x r
-      below-reach x r = go (leZ x r) refl
-        where
-          go : (t : Bool) → leZ x r ≡ t → leZ (pos 0) (r -ℤ x) ≡ t
-          go true e = omega (zarith, -! r x)
-          go false e = omega (zarith, -! r x)
+      below-reach x r = same (leZ (pos 0) (r -ℤ x)) (leZ x r) (λ e. omega (zarith, -! r x)) (λ e. omega (zarith, -! r x))
 
 -- ---- in the plane of two axes, the leg from (aa, ab) to (ba, bb)
 module _ (aa ab ba bb oa ob step d i j : ℤ) (h : NN d) where

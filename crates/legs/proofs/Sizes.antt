@@ -11,10 +11,10 @@ use Rattle.integers.proofs.Omega.{zarith, neg! }
 use Rattle.integers.proofs.Laws.{nn-mul, neg-*-r}
 use Rattle.integers.proofs.Bounds.{within-sub, within-mul, within-neg, within-weaken}
 use Rattle.integers.proofs.MinMax.{within-max}
-use Rattle.overlap.specs.Bounds.{offsetMax, stepMax, extentMax, BoundedPoint}
-use Rattle.overlap.specs.Geometry.{Point}
-use Rattle.overlap.specs.Grid.{Lattice}
-use Rattle.ranges.specs.Range.{BoundedLattice}
+use Rattle.geometry.specs.Bounds.{offsetMax, stepMax, extentMax, BoundedPoint}
+use Rattle.geometry.specs.declared.Point.{Point}
+use Rattle.grid.specs.declared.Lattice.{Lattice}
+use Rattle.grid.specs.Usable.{UsableLattice}
 use Rattle.legs.specs.Slab.{risingSlab, slabOf, slabsOf, BoundedSlab, BoundedSlabs}
 
 module _ {va vb step extent : ℤ} (positive : pos 0 <ℤ step) (hs : Within stepMax step) (hx : Within extentMax extent) (hva : Within offsetMax va) (hvb : Within offsetMax vb) where
@@ -37,7 +37,7 @@ module _ {va vb step extent : ℤ} (positive : pos 0 <ℤ step) (hs : Within ste
       go true e = rising-bounded (within-neg ha) (within-neg hb) (omega (zarith, neg! eb))
       go false e = rising-bounded ha hb (omega zarith)
 
-pub slabs-bounded : {l : Lattice} {p q : Point} → BoundedPoint p → BoundedPoint q → BoundedLattice l → BoundedSlabs (slabsOf l p q)
+pub slabs-bounded : {l : Lattice} {p q : Point} → BoundedPoint p → BoundedPoint q → UsableLattice l → BoundedSlabs (slabsOf l p q)
 slabs-bounded hp hq hl =
     let h = hl .first in
     let ex = within-sub (hq .x) (hp .x) in

@@ -7,10 +7,11 @@ use lib.IntN.{ℤ, pos, negℤ, natAbs, _+ℤ_, _-ℤ_, _*ℤ_}
 use lib.Signed.{_≤ℤ_, leZ, ltZ}
 use Rattle.integers.specs.Within.{Within}
 use Rattle.integers.specs.Order.{maxℤ}
-use Rattle.overlap.specs.Bounds.{offsetMax, stepMax, extentMax, indexMax}
-use Rattle.overlap.specs.Geometry.{Point, Axis, xOf, yOf, zOf}
-use Rattle.overlap.specs.Grid.{Lattice}
-use Rattle.ranges.specs.declared.CellRange.{CellRange}
+use Rattle.geometry.specs.Bounds.{offsetMax, stepMax, extentMax, indexMax}
+use Rattle.geometry.specs.declared.Point.{Point}
+use Rattle.geometry.specs.Geometry.{Axis, xOf, yOf, zOf}
+use Rattle.grid.specs.declared.Lattice.{Lattice}
+use Rattle.grid.specs.declared.CellRange.{CellRange}
 use Rattle.runs.specs.Run.{slopeMax, reachMax}
 use Rattle.legs.specs.declared.Slab.{Slab}
 use Rattle.legs.specs.declared.Slabs.{Slabs}

@@ -1,14 +1,14 @@
 // Legs of a route: which cells of its box a leg touches. A leg from A to B is the triangle A, B, B, so that its plane
 // rules out no cell, and in the plane of two axes the tests of its edges are one slab.
-use overlap::Vector;
-use ranges::CellRange;
+use geometry::Point;
+use grid::CellRange;
+use grid::Lattice;
 ghost use mathlib.Core.List.{[], _∷_};
 ghost use mathlib.Core.Path.{_≡_};
 ghost use Prim.Native.Nat.{_≤_};
 ghost use Rattle.integers.specs.Within.{Within, Withins};
-ghost use Rattle.overlap.specs.Bounds.{indexMax, BoundedPoint};
-ghost use Rattle.overlap.specs.Vectors.{pointOf};
-ghost use Rattle.ranges.specs.Range.{latticeOf, BoundedLattice};
+ghost use Rattle.geometry.specs.Bounds.{indexMax, BoundedPoint};
+ghost use Rattle.grid.specs.Usable.{UsableLattice};
 ghost use Rattle.runs.specs.Run.{Narrows};
 ghost use Rattle.legs.specs.Slab.{risingSlab, slabOf, slabsOf, slabHolds, rowHolds, cellHolds, slabBounds, BoundedSlab, BoundedSlabs, ReadyRows};
 
@@ -54,17 +54,20 @@ fn rising(ea: i64, eb: i64, va: i64, vb: i64, step: i64, extent: i64) -> Slab
     }
 }
 
-// The slabs of the leg from a to b, for boxes that begin at `origin`, `step` apart, and are `extent` long.
-pub fn leg_slabs(a: Vector, b: Vector, origin: Vector, step: i64, extent: i64) -> Slabs
-    requires { ⌜ BoundedPoint (pointOf a) × BoundedPoint (pointOf b) × BoundedLattice (latticeOf origin step extent) ⌝ }
-    ensures { λ r. ⌜ r ≡ slabsOf (latticeOf origin step extent) (pointOf a) (pointOf b) ⌝ }
+// The slabs of the leg from a to b, for the boxes of a lattice.
+pub fn leg_slabs(a: Point, b: Point, l: Lattice) -> Slabs
+    requires { ⌜ BoundedPoint a × BoundedPoint b × UsableLattice l ⌝ }
+    ensures { λ r. ⌜ r ≡ slabsOf l a b ⌝ }
 {
+    let first = l.first;
+    let step = l.step;
+    let extent = l.extent;
     let ex = b.x - a.x;
     let ey = b.y - a.y;
     let ez = b.z - a.z;
-    let x = a.x - origin.x;
-    let y = a.y - origin.y;
-    let z = a.z - origin.z;
+    let x = a.x - first.x;
+    let y = a.y - first.y;
+    let z = a.z - first.z;
     let xy = slab_of(ex, ey, x, y, step, extent);
     let yz = slab_of(ey, ez, y, z, step, extent);
     let zx = slab_of(ez, ex, z, x, step, extent);

@@ -3,22 +3,28 @@
 --     advance-more     one run of cells behind another
 --     advance-line     one cell, its line put
 --     advance-skip     cells without a line
---     empty-byte       the cells of a zero byte have no line
+--     no-line          cells before the next filled one have no line
+--     filled-line      a filled cell has the line of its place
 --     advance-piece    lines put up to the piece's end are the piece
 -- Assumes nothing.
 use mathlib.Core.Bool.{true}
 use mathlib.Core.List.{List, [], _++_}
-use mathlib.Core.Path.{_≡_, refl, sym, ap, _∙_}
-use Prim.Native.Nat.{ℕ, suc, _+_, _-_, _*_, _/_, _<_, _≤_}
+use mathlib.Core.Path.{_≡_, refl, sym, ap, ap₂, _∙_}
+use Prim.Native.Nat.{ℕ, suc, _+_, _-_, _<_, _≤_}
 use native.Mathlib.Omega.{arith}
-use lib.ListN.{length, getD, length-append}
-use Rattle.grid.specs.Map.{isFilled}
-use Rattle.grid.proofs.Filled.{empty-cell}
+use lib.ListN.{length, length-append}
+use Rattle.grid.specs.Cells.{xOfCell, yOfCell, zOfCell}
+use Rattle.grid.specs.Grid.{cellCount}
+use Rattle.map.specs.Map.{isFilled}
+use Rattle.map.specs.Inner.{NextFilled}
+use Rattle.text.specs.Text.{placed}
+use Rattle.text.specs.Inner.{Puts}
+use Rattle.text.specs.Lines.{placeLine, lineMost}
+use Rattle.text.proofs.Texts.{placed-none, placed-more, length-placed}
 use Rattle.listing.specs.declared.Rest.{Rest}
-use Rattle.listing.specs.Text.{placed, Puts}
-use Rattle.listing.specs.Listing.{cellLine, linesFrom, lineMost, stopAt, cellsIn, usable, lineOf, nextCell, pieceText, partBy, piece, pieceBytes, Advances}
-use Rattle.listing.proofs.Texts.{placed-none, placed-more, length-placed}
-use Rattle.listing.proofs.Lines.{lines-add, lines-one, lines-none, stop-step, stop-skip}
+use Rattle.listing.specs.Listing.{cellLine, lineOf, linesFrom, pieceOf, usable, partBy, piece, pieceBytes}
+use Rattle.listing.specs.Inner.{stopAt, Advances}
+use Rattle.listing.proofs.Lines.{lines-add, lines-one, lines-none, stop-step, stop-skip, text-in}
 
 module _ (line : ℕ → List ℕ) (count : ℕ) where
   pub advance-skip : (from at next : ℕ) (old : List ℕ) → from ≤ next → next ≤ count → at + lineMost ≤ length old
@@ -78,22 +84,27 @@ module _ (line : ℕ → List ℕ) (count : ℕ) where
         stop = ap (λ (k : ℕ). stopAt line (k - end) next (count - next)) (sym long) ∙ q .stop ∙ ap (λ (k : ℕ). stopAt line (k - behind) mid (count - mid)) long ∙ p .stop;
       }
 
-pub empty-byte : (m : List ℕ) (nx ny cell next : ℕ) → getD m (cell / 8) 0 ≡ 0 → next ≤ cell / 8 * 8 + 8
-    → (n : ℕ) → cell ≤ n → n < next → cellLine (isFilled m) nx ny n ≡ []
-unfolding cellLine
-empty-byte m nx ny cell next zero end n l u =
-    rw (empty-cell m cell n zero l (omega (arith, u, end)))
+-- ---- the lines of a map's cells
+module _ (m : List ℕ) (nx ny : ℕ) where
+  pub no-line : {first end next : ℕ} → NextFilled m first end next → (n : ℕ) → first ≤ n → n < next → cellLine (isFilled m) nx ny n ≡ []
+  unfolding cellLine
+  no-line found n l u = rw (found .skipped n u l)
 
-pub advance-piece : (m : List ℕ) (r : Rest) {cell at : ℕ} {out new : List ℕ} → usable (length m) (r .cells) ≡ true
-    → Advances (lineOf m (r .cells)) (cellsIn (r .cells)) (r .from) 0 out cell at new
-    → cell ≡ stopAt (lineOf m (r .cells)) (length out) (r .from) (cellsIn (r .cells) - r .from)
-    → (partBy at (record { cells = r .cells; from = cell }) ≡ piece m r out) × (new ≡ pieceBytes m r out)
-unfolding piece pieceBytes nextCell pieceText
+  pub filled-line : (n : ℕ) → isFilled m n ≡ true → placeLine (xOfCell nx n) (yOfCell nx ny n) (zOfCell nx ny n) ≡ cellLine (isFilled m) nx ny n
+  unfolding cellLine
+  filled-line n e = rw e
+
+pub advance-piece : (m : List ℕ) (r : Rest) {cell at : ℕ} {out new : List ℕ} → usable (length m) (r .grid) ≡ true
+    → Advances (lineOf (isFilled m) (r .grid)) (cellCount (r .grid)) (r .from) 0 out cell at new
+    → cell ≡ pieceOf m r (length out) .next
+    → (partBy at (record { grid = r .grid; from = cell }) ≡ piece m r out) × (new ≡ pieceBytes m r out)
+unfolding piece pieceBytes
 advance-piece m r {cell} {at} {out} {new} u p end =
-    let left : ℕ → Rest = λ n. record { cells = r .cells; from = n } in
-    let text : ℕ → List ℕ = λ n. linesFrom (lineOf m (r .cells)) (r .from) (n - r .from) in
-    let len : at ≡ length (text cell) = omega (arith, p .moved) in
+    let line = lineOf (isFilled m) (r .grid) in
+    let text : linesFrom line (r .from) (cell - r .from) ≡ pieceOf m r (length out) .text =
+    ap (λ (n : ℕ). linesFrom line (r .from) (n - r .from)) end ∙ sym (text-in line (length out) (r .from) (cellCount (r .grid) - r .from)) in
+    let len : at ≡ length (pieceOf m r (length out) .text) = omega (arith, p .moved, ap length text) in
     rw u (
-      ap (λ (n : ℕ). partBy n (left cell)) len ∙ ap (λ (n : ℕ). partBy (length (text n)) (left n)) end,
-      p .bytes ∙ ap (λ (n : ℕ). placed out 0 (text n)) end,
+      ap₂ (λ (n k : ℕ). partBy n (record { grid = r .grid; from = k })) len end,
+      p .bytes ∙ ap (placed out 0) text,
     )

@@ -1,8 +1,4 @@
--- Texts put into bytes, one behind the other.
-mod Texts
--- Numbers in base ten.
-mod Decimals
--- Lines of cells, and where a piece stops.
+-- Lines of cells, and those that fit.
 mod Lines
 -- What the code of a piece keeps.
 mod Advance

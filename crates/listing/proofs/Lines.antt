@@ -1,20 +1,23 @@
--- Laws of lines of cells, and of the cell at which a piece stops.
+-- Laws of lines of cells, of those that fit, and of the cell at which they stop.
 --     lines-add, -one, -none   of two runs of cells, of one cell, and of cells without a line
 --     lines-same               lines that agree
---     stop-here, -end          a piece stops where there is no room for a line, and at the end of the cells
---     stop-step, -skip         it goes on behind a cell, and behind cells without a line
---     stop-forth               a piece stops at its first cell or behind it
---     stop-more                where there is a cell and room for a line, it goes on
+--     stop-here, -end          lines stop where there is no room for a line, and at the end of the cells
+--     stop-step, -skip         they go on behind a cell, and behind cells without a line
+--     stop-forth               they stop at their first cell or behind it
+--     stop-more                where there is a cell and room for a line, they go on
+--     text-in                  the lines that fit are those of the cells up to where they stop
 -- Assumes nothing.
 use mathlib.Core.List.{List, [], _++_, append-assoc, append-nil}
-use mathlib.Core.Path.{_≡_, refl, sym, ap, _∙_}
+use mathlib.Core.Path.{_≡_, refl, sym, ap, ap₂, _∙_, subst}
 use Prim.Native.Nat.{ℕ, zero, suc, _+_, _-_, _<_, _≤_}
 use native.Mathlib.Nat.{add-zero, add-suc, zero-add, suc-add}
 use native.Mathlib.Decide.{decLt}
 use native.Mathlib.Omega.{arith}
 use borrow.Author.Tests.{lt-ltb, le-ltb}
 use lib.ListN.{length}
-use Rattle.listing.specs.Listing.{linesFrom, lineMost, stopAt}
+use Rattle.text.specs.Lines.{lineMost}
+use Rattle.listing.specs.Listing.{linesFrom, Lines, linesIn}
+use Rattle.listing.specs.Inner.{stopAt}
 
 pub lines-same : (f g : ℕ → List ℕ) (from count : ℕ) → ((n : ℕ) → n < from + count → f n ≡ g n) → linesFrom f from count ≡ linesFrom g from count
 unfolding linesFrom
@@ -42,19 +45,26 @@ module _ (line : ℕ → List ℕ) where
   lines-none from zero h = refl
   lines-none from (suc k) h = rw (lines-none from k (λ n l u. h n l (omega arith)), h (from + k) (omega arith) (omega arith))
 
-  -- ---- the end of a piece
+  -- ---- the lines that fit
+  in-here : (room from count : ℕ) → room < lineMost → linesIn line room from count ≡ record { text = []; next = from }
+  unfolding linesIn
+  in-here room from zero h = refl
+  in-here room from (suc count) h = rw (lt-ltb room lineMost h)
+
+  in-step : (room from count : ℕ) → lineMost ≤ room → let others = linesIn line (room - length (line from)) (from + 1) count in
+      linesIn line room from (suc count) ≡ record { text = line from ++ others .text; next = others .next }
+  unfolding linesIn
+  in-step room from count h = rw (le-ltb room lineMost h)
+
   pub stop-here : (room from count : ℕ) → room < lineMost → stopAt line room from count ≡ from
-  unfolding stopAt
-  stop-here room from zero h = refl
-  stop-here room from (suc count) h = rw (lt-ltb room lineMost h)
+  stop-here room from count h = ap (λ (l : Lines). l .next) (in-here room from count h)
 
   pub stop-end : (room from : ℕ) → stopAt line room from 0 ≡ from
-  unfolding stopAt
+  unfolding linesIn
   stop-end room from = refl
 
   pub stop-step : (room from count : ℕ) → lineMost ≤ room → stopAt line room from (suc count) ≡ stopAt line (room - length (line from)) (from + 1) count
-  unfolding stopAt
-  stop-step room from count h = rw (le-ltb room lineMost h)
+  stop-step room from count h = ap (λ (l : Lines). l .next) (in-step room from count h)
 
   pub stop-skip : (room from count k : ℕ) → lineMost ≤ room → ((n : ℕ) → from ≤ n → n < from + k → line n ≡ []) → stopAt line room from (k + count) ≡ stopAt line room (from + k) count
   stop-skip room from count zero h none =
@@ -80,3 +90,23 @@ module _ (line : ℕ → List ℕ) where
   pub stop-more : (room from count : ℕ) → lineMost ≤ room → 0 < count → from < stopAt line room from count
   stop-more room from zero h some = absurd (omega arith)
   stop-more room from (suc count) h some = rw (stop-step room from count h) (omega (arith, stop-forth (room - length (line from)) (from + 1) count))
+
+  -- The text is that of the cells from `from` on up to the next.
+  abbrev Reaches : ℕ → Lines → Type 0
+  Reaches from l = l .text ≡ linesFrom line from (l .next - from)
+
+  pub text-in : (room from count : ℕ) → Reaches from (linesIn line room from count)
+  unfolding linesFrom linesIn
+  text-in room from zero = let none : 0 ≡ from - from = omega arith in ap (linesFrom line from) none
+  text-in room from (suc count) = go (decLt room lineMost) (text-in (room - length (line from)) (from + 1) count)
+    where
+      others : Lines
+      others = linesIn line (room - length (line from)) (from + 1) count
+
+      go : Dec (room < lineMost) → Reaches (from + 1) others → Reaches from (linesIn line room from (suc count))
+      go (yes l) ih = let none : 0 ≡ from - from = omega arith in subst (Reaches from) (sym (in-here room from (suc count) l)) (ap (linesFrom line from) none)
+      go (no l) ih =
+          let behind = others .next - (from + 1) in
+          let both : 1 + behind ≡ others .next - from = omega (arith, stop-forth (room - length (line from)) (from + 1) count) in
+          subst (Reaches from) (sym (in-step room from count (omega arith)))
+          (ap₂ _++_ (sym (lines-one from)) ih ∙ sym (lines-add from 1 behind) ∙ ap (linesFrom line from) both)

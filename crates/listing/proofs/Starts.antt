@@ -9,16 +9,18 @@ use mathlib.Core.Path.{_≡_, sym, ap, ap₂, _∙_}
 use Prim.Native.Nat.{ℕ, _<_, _≤_}
 use borrow.Author.Tests.{lt-ltb, le-ltb}
 use lib.ListN.{length}
-use Rattle.frame.specs.declared.Header.{Header}
-use Rattle.frame.specs.Limit.{Answer, gives, refused}
+use Rattle.refusal.specs.Limit.{Answer, gives, refused}
+use Rattle.refusal.proofs.Asking.{refuses, passes, asked-refused, asked-given}
+use Rattle.grid.specs.Grid.{cellCount}
+use Rattle.map.specs.Map.{mapLength, countBelow}
+use Rattle.layout.specs.declared.Header.{Header}
 use Rattle.frame.specs.Questions.{checked}
 use Rattle.frame.proofs.Accepted.{header-is}
-use Rattle.frame.proofs.Asking.{refuses, passes, asked-refused, asked-given}
-use Rattle.grid.specs.Map.{mapLength, countBelow}
-use Rattle.fill.specs.Steel.{cellCount, filling, filledBytes}
+use Rattle.fill.specs.Fill.{gridOf, filledIn, filling, filledBytes}
 use Rattle.fill.proofs.Answers.{fill-passed}
-use Rattle.listing.specs.Text.{placed}
-use Rattle.listing.specs.Listing.{filledLine, filledIn, firstLine, firstMost, Start, more, shortBuffer, allOf, start, begun, begunMap, begunBytes}
+use Rattle.text.specs.Text.{placed}
+use Rattle.text.specs.Lines.{filledLine, firstMost}
+use Rattle.listing.specs.Listing.{firstLine, Start, more, shortBuffer, allOf, start, begun, begunMap, begunBytes}
 
 module _ (s m out : List ℕ) where
   -- This is said, and the map and the output are these afterwards.
@@ -31,12 +33,10 @@ module _ (s m out : List ℕ) where
       let says : begun s m out ≡ refused n p = refuses _ _ (asked-refused _ _ e) in
       (sym says, rw says, rw says)
 
-  module _ (h : Header) (c : checked s ≡ gives h) (room : mapLength (cellCount h) ≤ length m) where
-    given : begun s m out ≡ gives (start s h out)
+  module _ (h : Header) (c : checked s ≡ gives h) (room : mapLength (cellCount (h .grid)) ≤ length m) where
+    given : begun s m out ≡ gives (start s out)
     unfolding filling begun
-    given =
-        passes _ _ (asked-given _ _ (fill-passed s m h c room .0) .0)
-        ∙ ap (λ (x : Header). gives (start s x out)) (header-is s h c)
+    given = passes _ _ (asked-given _ _ (fill-passed s m h c room .0) .0)
 
     pub start-short : length out < firstMost → Begins (gives shortBuffer) m out
     unfolding begunMap begunBytes
@@ -44,15 +44,14 @@ module _ (s m out : List ℕ) where
         let says : begun s m out ≡ gives shortBuffer = given ∙ rw (lt-ltb (length out) firstMost l) in
         (sym says, rw says, rw says)
 
-    pub start-put : firstMost ≤ length out
-        → Begins (gives (more (length (firstLine s h)) (allOf h))) (filledBytes s m) (placed out 0 (firstLine s h))
+    pub start-put : firstMost ≤ length out → Begins (gives (more (length (firstLine s)) (allOf (gridOf s)))) (filledBytes s m) (placed out 0 (firstLine s))
     unfolding begunMap begunBytes
     start-put l =
-        let says : begun s m out ≡ gives (more (length (firstLine s h)) (allOf h)) = given ∙ rw (le-ltb (length out) firstMost l) in
-        (sym says, rw says, rw (says, header-is s h c))
+        let says : begun s m out ≡ gives (more (length (firstLine s)) (allOf (gridOf s))) = given ∙ rw (le-ltb (length out) firstMost l) in
+        (sym says, rw says, rw says)
 
-    pub first-is : {count all : ℕ} → gives count ≡ filling s m → all ≡ cellCount h → filledLine count all ≡ firstLine s h
+    pub first-is : {count all : ℕ} → gives count ≡ filling s m → all ≡ cellCount (h .grid) → filledLine count all ≡ firstLine s
     unfolding firstLine
     first-is {count} e a =
-        let n : count ≡ countBelow (filledIn s h) (cellCount h) = cc (fill-passed s m h c room .0) in
-        ap₂ filledLine n a
+        let n : count ≡ countBelow (filledIn s) (cellCount (gridOf s)) = cc (fill-passed s m h c room .0) in
+        ap₂ filledLine n (a ∙ ap (λ (x : Header). cellCount (x .grid)) (sym (header-is s h c)))

@@ -1,18 +1,20 @@
 -- What a usable grid has.
---     usable-grid      1 to 64 cells a side, and room in the map
---     ready            so the code of a piece can take it
---     most-cells       its cells in all
+--     side             a side that fits has 1 to 64 cells
+--     usable-grid      a usable grid has three such sides, and room in the map
+--     most-layers      so its cells in all are at most those of 64 layers
+--     most-cells       and at most 64 × 64 × 64
 -- Assumes nothing.
 use mathlib.Core.Bool.{Bool, true, false, _&&_}
 use mathlib.Core.Path.{_≡_, refl}
 use Prim.Native.Nat.{ℕ, _*_, _≤_}
 use native.Mathlib.Nat.{mul-le-mul, mul-le-mul-left}
-use native.Mathlib.Omega.{arith}
 use borrow.Author.Tests.{leb-true}
 use lib.Dec.{leb}
-use Rattle.frame.specs.declared.Cells.{Cells}
-use Rattle.grid.specs.Map.{mapLength}
-use Rattle.listing.specs.Listing.{sideFits, cellsIn, usable, Ready}
+use Rattle.grid.specs.declared.Grid.{Grid}
+use Rattle.grid.specs.Grid.{cellCount}
+use Rattle.grid.specs.Usable.{OneTo64}
+use Rattle.map.specs.Map.{mapLength}
+use Rattle.listing.specs.Listing.{sideFits, usable}
 
 and-left : (p q : Bool) → (p && q) ≡ true → p ≡ true
 and-left true q e = refl
@@ -22,44 +24,26 @@ and-right : (p q : Bool) → (p && q) ≡ true → q ≡ true
 and-right true q e = e
 and-right false q e = cc
 
-pub record Side (n : ℕ) : Type 0 where
-  pub some : 1 ≤ n
-  pub most : n ≤ 64
-
-pub record UsableGrid (len : ℕ) (c : Cells) : Type 0 where
-  pub x : Side (c .x)
-  pub y : Side (c .y)
-  pub z : Side (c .z)
-  pub room : mapLength (cellsIn c) ≤ len
-
-pub side : (n : ℕ) → sideFits n ≡ true → Side n
+pub side : (n : ℕ) → sideFits n ≡ true → OneTo64 n
 side n e = record { some = leb-true 1 n (and-left (leb 1 n) (leb n 64) e); most = leb-true n 64 (and-right (leb 1 n) (leb n 64) e) }
 
-module _ (len : ℕ) (c : Cells) where
-  pub usable-grid : usable len c ≡ true → UsableGrid len c
+module _ (len : ℕ) (g : Grid) (e : usable len g ≡ true) where
+  pub usable-grid : OneTo64 (g .nx) × OneTo64 (g .ny) × OneTo64 (g .nz) × (mapLength (cellCount g) ≤ len)
   unfolding usable
-  usable-grid e =
-      let fits = leb (mapLength (cellsIn c)) len in
-      let zs = sideFits (c .z) && fits in
-      let ys = sideFits (c .y) && zs in
-      let e1 = and-right (sideFits (c .x)) ys e in
-      let e2 = and-right (sideFits (c .y)) zs e1 in
-      record {
-        x = side (c .x) (and-left (sideFits (c .x)) ys e);
-        y = side (c .y) (and-left (sideFits (c .y)) zs e1);
-        z = side (c .z) (and-left (sideFits (c .z)) fits e2);
-        room = leb-true (mapLength (cellsIn c)) len (and-right (sideFits (c .z)) fits e2);
-      }
+  usable-grid =
+      let fits = leb (mapLength (cellCount g)) len in
+      let zs = sideFits (g .nz) && fits in
+      let ys = sideFits (g .ny) && zs in
+      let e1 = and-right (sideFits (g .nx)) ys e in
+      let e2 = and-right (sideFits (g .ny)) zs e1 in (
+        side (g .nx) (and-left (sideFits (g .nx)) ys e),
+        side (g .ny) (and-left (sideFits (g .ny)) zs e1),
+        side (g .nz) (and-left (sideFits (g .nz)) fits e2),
+        leb-true (mapLength (cellCount g)) len (and-right (sideFits (g .nz)) fits e2),
+      )
 
-  pub ready : UsableGrid len c → Ready (c .x) (c .y) (cellsIn c) len
-  ready u = record {
-    some-x = u .x .some;
-    most-x = u .x .most;
-    some-y = u .y .some;
-    most-y = u .y .most;
-    layers = mul-le-mul-left (c .x * c .y) (u .z .most);
-    room = omega (arith, u .room);
-  }
+  pub most-layers : cellCount g ≤ g .nx * g .ny * 64
+  most-layers = mul-le-mul-left (g .nx * g .ny) (usable-grid .2 .most)
 
-  pub most-cells : UsableGrid len c → cellsIn c ≤ 64 * 64 * 64
-  most-cells u = mul-le-mul (mul-le-mul (u .x .most) (u .y .most)) (u .z .most)
+  pub most-cells : cellCount g ≤ 64 * 64 * 64
+  most-cells = let (x, y, z, room) = usable-grid in mul-le-mul (mul-le-mul (x .most) (y .most)) (z .most)

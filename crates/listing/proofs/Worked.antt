@@ -1,17 +1,17 @@
--- The worked listing of frame g, the refusal of its first 27 bytes, and the printed line of a refusal with a place, by computation on the definitions themselves.
+-- The worked listing of frame g, two pieces of it, and the refusal of its first 27 bytes, by computation on the definitions themselves.
 use mathlib.Core.List.{List, [], _∷_}
 use mathlib.Core.Path.{_≡_, refl}
 use Prim.Native.Nat.{ℕ}
 use lib.ListN.{take}
 use Rattle.bits.specs.Field.{bitAt, fieldAt, signedAt}
-use Rattle.frame.specs.Fields.{headerOf, reservedOf, kindOf, triangleOf}
-use Rattle.frame.specs.Limit.{numbered}
-use Rattle.frame.specs.Questions.{answered, ofEach, checked}
-use Rattle.overlap.specs.Rule.{overlapsBox, overlaps}
-use Rattle.grid.specs.Map.{tabulate, countBelow}
-use Rattle.fill.specs.Steel.{steel, anyOf}
-use Rattle.listing.specs.Text.{digits, decimal}
-use Rattle.listing.specs.Listing.{refusedLine, cellLine, linesFrom, firstLine, listing}
+use Rattle.refusal.specs.Questions.{answered, ofEach}
+use Rattle.map.specs.Map.{isFilled, tabulate, countBelow}
+use Rattle.overlap.specs.Rule.{overlapsBox}
+use Rattle.layout.specs.Values.{headerIn, reservedIn, kindIn, recordIn}
+use Rattle.frame.specs.Questions.{checked}
+use Rattle.fill.specs.Fill.{obstacles, anyOf, gridOf}
+use Rattle.text.specs.Text.{digits, decimal}
+use Rattle.listing.specs.Listing.{cellLine, linesFrom, firstLine, filledLines, listing, linesIn, pieceOf}
 
 abbrev g : List ℕ
 g =
@@ -24,15 +24,21 @@ pub worked : listing g
     ∷ 49 ∷ 32 ∷ 48 ∷ 32 ∷ 48 ∷ 10
     ∷ 48 ∷ 32 ∷ 49 ∷ 32 ∷ 48 ∷ 10
     ∷ 49 ∷ 32 ∷ 49 ∷ 32 ∷ 48 ∷ 10 ∷ [])
-unfolding bitAt fieldAt signedAt headerOf reservedOf kindOf triangleOf answered ofEach checked overlapsBox overlaps tabulate countBelow steel anyOf digits decimal cellLine linesFrom firstLine listing
+unfolding bitAt fieldAt signedAt headerIn reservedIn kindIn recordIn answered ofEach checked overlapsBox tabulate countBelow obstacles anyOf digits decimal cellLine linesFrom firstLine filledLines listing
 worked = refl
+
+-- Its map is the byte 0111 0000. Into 20 bytes go "1 0 0" and "0 1 0", 12 bytes with their line feeds: the 8 bytes left are too few for a longest line. The
+-- next piece goes on from cell 3, with "1 1 0", and reaches the end of the 8 cells.
+pub first-piece : pieceOf (0x70 ∷ []) (record { grid = gridOf g; from = 0 }) 20
+    ≡ record { text = 49 ∷ 32 ∷ 48 ∷ 32 ∷ 48 ∷ 10 ∷ 48 ∷ 32 ∷ 49 ∷ 32 ∷ 48 ∷ 10 ∷ []; next = 3 }
+unfolding bitAt fieldAt signedAt headerIn isFilled digits decimal cellLine linesIn
+first-piece = refl
+
+pub last-piece : pieceOf (0x70 ∷ []) (record { grid = gridOf g; from = 3 }) 20 ≡ record { text = 49 ∷ 32 ∷ 49 ∷ 32 ∷ 48 ∷ 10 ∷ []; next = 8 }
+unfolding bitAt fieldAt signedAt headerIn isFilled digits decimal cellLine linesIn
+last-piece = refl
 
 -- "REFUSED 6 0"
 pub refused : listing (take 27 g) ≡ (82 ∷ 69 ∷ 70 ∷ 85 ∷ 83 ∷ 69 ∷ 68 ∷ 32 ∷ 54 ∷ 32 ∷ 48 ∷ 10 ∷ [])
-unfolding bitAt fieldAt signedAt headerOf reservedOf kindOf triangleOf answered ofEach checked digits decimal listing
+unfolding bitAt fieldAt signedAt headerIn reservedIn kindIn recordIn answered ofEach checked digits decimal listing
 refused = refl
-
--- "REFUSED 7 2"
-pub printed : refusedLine (numbered 7 2) ≡ (82 ∷ 69 ∷ 70 ∷ 85 ∷ 83 ∷ 69 ∷ 68 ∷ 32 ∷ 55 ∷ 32 ∷ 50 ∷ 10 ∷ [])
-unfolding digits decimal
-printed = refl

@@ -1,2 +1,3 @@
-pub mod Text
 pub mod Listing
+-- inner
+pub mod Inner

@@ -9,7 +9,8 @@ use Rattle.integers.proofs.Laws.{+-right-comm}
 use Rattle.integers.proofs.Expr.{var, _⊕_, _⊖_, _⊗_}
 use Rattle.integers.proofs.Ring.{ring, ring4}
 use Rattle.integers.proofs.MinMax.{min!, max! }
-use Rattle.overlap.specs.Geometry.{Point, Triangle}
+use Rattle.geometry.specs.declared.Point.{Point}
+use Rattle.geometry.specs.declared.Triangle.{Triangle}
 use Rattle.overlap.specs.Rule.{Side, low, high, step, corner, normal, offset, overSides, overCorners, least8, greatest8}
 
 min-shift : (k a b : ℤ) → minℤ (k +ℤ a) (k +ℤ b) ≡ k +ℤ minℤ a b

@@ -1,5 +1,2 @@
-pub mod Geometry
 pub mod Rule
-pub mod Grid
-pub mod Vectors
-pub mod Bounds
+pub mod Cells

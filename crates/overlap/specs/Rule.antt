@@ -4,7 +4,9 @@ use mathlib.Core.Bool.{Bool, cond, _&&_}
 use lib.IntN.{ℤ, pos, negℤ, _+ℤ_, _-ℤ_, _*ℤ_}
 use lib.Signed.{leZ, ltZ}
 use Rattle.integers.specs.Order.{minℤ, maxℤ}
-use Rattle.overlap.specs.Geometry.{Point, point, minus, dot, cross, Triangle, Axis, xOf, yOf, zOf, cube}
+use Rattle.geometry.specs.declared.Point.{Point}
+use Rattle.geometry.specs.declared.Triangle.{Triangle}
+use Rattle.geometry.specs.Geometry.{point, minus, dot, cross, Axis, xOf, yOf, zOf}
 
 -- The edges e0, e1 and e2, and the normal n.
 abbrev pub edge0 : Triangle → Point
@@ -101,7 +103,3 @@ overlapsBox t p d =
     && edgesHold t p d xOf yOf (normal t .z)
     && edgesHold t p d yOf zOf (normal t .x)
     && edgesHold t p d zOf xOf (normal t .y)
-
--- A triangle fills the cell with lowest corner p and edge s.
-unfoldable pub overlaps : Triangle → Point → ℤ → Bool
-overlaps t p s = overlapsBox t p (cube s)

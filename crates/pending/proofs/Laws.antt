@@ -18,7 +18,7 @@ use lib.Dec.{ltb}
 use lib.ListN.{length, getD, set, length-set}
 use lib.Pow.{pow-mono, pow-pos}
 use lib.Seq.{getD-set-same, getD-set-other}
-use Rattle.grid.specs.Map.{isFilled, bit}
+use Rattle.map.specs.Map.{isFilled, bit}
 use Rattle.pending.specs.Pending.{stack, waits, Progress, Each, weight, load, putIf, halvings}
 
 pub bit-most : (k : Bool) → bit k ≤ 1

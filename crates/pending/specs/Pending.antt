@@ -6,7 +6,7 @@ use mathlib.Core.Path.{_≡_}
 use Prim.Native.Nat.{ℕ, zero, suc, _+_, _-_, _*_, _^_}
 use lib.Dec.{ltb}
 use lib.ListN.{length, getD}
-use Rattle.grid.specs.Map.{isFilled, bit}
+use Rattle.map.specs.Map.{isFilled, bit}
 
 module _ {B : Type 0} where
   -- The first n blocks of an array, as a stack: the last of them comes first. Past its end the array reads as z.

@@ -1,2 +1,4 @@
 -- The axis of a row of cells.
 pub mod Rows
+-- Corners measured from a point.
+pub mod Measured

@@ -6,11 +6,12 @@ use lib.Dec.{leb, eqb}
 use lib.IntN.{ℤ, pos, _+ℤ_, _*ℤ_}
 use lib.Signed.{leZ}
 use Rattle.integers.specs.Order.{minℤ, maxℤ}
-use Rattle.overlap.specs.Bounds.{coordinateMax, stepMax, extentMax, each}
-use Rattle.ranges.specs.declared.BoxRange.{BoxRange}
-use Rattle.ranges.specs.declared.CellRange.{CellRange}
-use Rattle.overlap.specs.Geometry.{Triangle, Axis, xOf, yOf, zOf}
-use Rattle.placed.specs.declared.Lattice.{Lattice}
+use Rattle.geometry.specs.Bounds.{coordinateMax, stepMax, extentMax, each}
+use Rattle.grid.specs.declared.BoxRange.{BoxRange}
+use Rattle.grid.specs.declared.CellRange.{CellRange}
+use Rattle.geometry.specs.declared.Triangle.{Triangle}
+use Rattle.geometry.specs.Geometry.{Axis, xOf, yOf, zOf}
+use Rattle.grid.specs.declared.Lattice.{Lattice}
 
 -- On some axis the box has no cell.
 abbrev pub isEmpty : BoxRange → Bool
@@ -26,9 +27,9 @@ isOne r origin step extent a0 a1 a2 =
 abbrev pub oneBounds : List ℕ
 oneBounds = coordinateMax ∷ stepMax ∷ extentMax ∷ each coordinateMax 3 []
 
--- The triangle stays within one cell on an axis, where the lattice begins at `origin`.
-abbrev pub stays : Lattice → Triangle → CellRange → (origin : ℤ) → Axis → Bool
-stays g t r origin a = isOne r origin (g .step) (g .extent) (a (t .v0)) (a (t .v1)) (a (t .v2))
+-- The triangle stays within one cell on an axis.
+abbrev pub stays : Lattice → Triangle → CellRange → Axis → Bool
+stays l t r a = isOne r (a (l .first)) (l .step) (l .extent) (a (t .v0)) (a (t .v1)) (a (t .v2))
 
 -- The axis of a row of cells, by whether the triangle stays within one cell on x, y and z: the one that it need not stay on, 1, 2 or 3 for x, y or z, and z
 -- before the others; 0 where it stays on fewer than two.
@@ -36,7 +37,7 @@ abbrev pub axisOf : (x y z : Bool) → ℕ
 axisOf x y z = cond x (cond y 3 (cond z 2 0)) (cond y (cond z 1 0) 0)
 
 abbrev pub rowAxis : Lattice → BoxRange → Triangle → ℕ
-rowAxis g b t = axisOf (stays g t (b .x) (g .x) xOf) (stays g t (b .y) (g .y) yOf) (stays g t (b .z) (g .z) zOf)
+rowAxis l b t = axisOf (stays l t (b .x) xOf) (stays l t (b .y) yOf) (stays l t (b .z) zOf)
 
 -- What this asks: the first cell of the box on each axis is one of a grid.
 pub record Firsts (b : BoxRange) : Type 0 where

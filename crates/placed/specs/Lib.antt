@@ -1,3 +1,4 @@
-pub mod Lattice
+-- inner
+pub mod Numbering
 pub mod Box
 pub mod Placed

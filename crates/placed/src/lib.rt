@@ -1,59 +1,38 @@
 // A triangle and the boxes of a grid's cells: the row of cells that it stays within, and both seen with the axes in some turn.
 use columns::Strides;
-use overlap::Vector;
-use ranges::BoxRange;
-use ranges::CellRange;
+use geometry::Point;
+use geometry::Triangle;
+use grid::BoxRange;
+use grid::CellRange;
+use grid::Grid;
+use grid::Lattice;
 ghost use mathlib.Core.List.{[], _∷_};
 ghost use mathlib.Core.Path.{_≡_};
-ghost use Prim.Native.Nat.{_<_};
+ghost use Prim.Native.Nat.{_<_, _≤_};
 ghost use Rattle.integers.specs.Within.{Withins};
-ghost use Rattle.overlap.specs.Bounds.{BoundedPoint, BoundedTriangle};
-ghost use Rattle.overlap.specs.Geometry.{minus};
-ghost use Rattle.overlap.specs.Vectors.{pointOf, triangleOf};
-ghost use Rattle.ranges.specs.Range.{BoundedLattice};
-ghost use Rattle.column_rule.specs.Turn.{turnPoint, turnBox};
-ghost use Rattle.placed.specs.Lattice.{boxesOf, stridesOf, turnStrides, Sides};
+ghost use Rattle.geometry.specs.Bounds.{offsetMax, each, TriangleWithin, BoundedPoint, BoundedTriangle};
+ghost use Rattle.geometry.specs.Geometry.{minus};
+ghost use Rattle.geometry.specs.Inner.{measuredFrom};
+ghost use Rattle.grid.specs.Usable.{UsableLattice};
+ghost use Rattle.column_rule.specs.Turn.{turnPoint, turnTriangle, turnBox};
+ghost use Rattle.placed.specs.Numbering.{stridesOf, turnStrides};
 ghost use Rattle.placed.specs.Box.{isEmpty, isOne, oneBounds, rowAxis, Firsts};
-ghost use Rattle.placed.specs.Placed.{PlacedFor, TurnedFrom};
-
-// The boxes of a grid's cells: how many cells there are along each axis, the lowest corner of the first box, how far apart the boxes of neighbours
-// begin, and how large a box is.
-pub struct Lattice {
-    pub nx: usize,
-    pub ny: usize,
-    pub nz: usize,
-    pub x: i64,
-    pub y: i64,
-    pub z: i64,
-    pub step: i64,
-    pub extent: i64,
-}
+ghost use Rattle.overlap.specs.Rule.{normal};
+ghost use Rattle.forms.specs.Triangle.{component};
+ghost use Rattle.placed.specs.Placed.{placedIn, turnPlaced};
 
 // A triangle to be filled in columns along the third axis: its corners, measured from the lowest corner of the first box, and its normal; how the
 // cells are numbered, and the triangle's box of them. The axes are taken in some turn.
 pub struct Placed {
-    pub v0: Vector,
-    pub v1: Vector,
-    pub v2: Vector,
-    pub n: Vector,
+    pub t: Triangle,
+    pub n: Point,
     pub s: Strides,
     pub b: BoxRange,
 }
 
-// The lowest corner of the first box.
-pub fn origin_of(g: Lattice) -> Vector
-    ensures { λ r. ⌜ pointOf r ≡ boxesOf g .first ⌝ }
-{
-    Vector {
-        x: g.x,
-        y: g.y,
-        z: g.z,
-    }
-}
-
 // How the cells are numbered.
-pub fn strides(g: Lattice) -> Strides
-    requires { ⌜ Sides g ⌝ }
+pub fn strides(g: Grid) -> Strides
+    requires { ⌜ (g .nx ≤ 64) × (g .ny ≤ 64) ⌝ }
     ensures { λ r. ⌜ r ≡ stridesOf g ⌝ }
 {
     Strides {
@@ -83,16 +62,20 @@ pub fn is_empty(b: BoxRange) -> bool
 }
 
 // The axis of a row of cells that the triangle stays within: 1, 2 or 3 for x, y or z, where it stays within one cell on the other two; 0 for none.
-pub fn row_axis(g: Lattice, b: BoxRange, v0: Vector, v1: Vector, v2: Vector) -> usize
-    requires { ⌜ Firsts b × BoundedLattice (boxesOf g) × BoundedTriangle (triangleOf v0 v1 v2) ⌝ }
-    ensures { λ r. ⌜ r ≡ rowAxis g b (triangleOf v0 v1 v2) ⌝ }
+pub fn row_axis(l: Lattice, b: BoxRange, t: Triangle) -> usize
+    requires { ⌜ Firsts b × UsableLattice l × BoundedTriangle t ⌝ }
+    ensures { λ r. ⌜ r ≡ rowAxis l b t ⌝ }
 {
+    let first = l.first;
+    let v0 = t.v0;
+    let v1 = t.v1;
+    let v2 = t.v2;
     let x = b.x;
     let y = b.y;
     let z = b.z;
-    let in_y = is_one(y, g.y, g.step, g.extent, v0.y, v1.y, v2.y);
-    let in_z = is_one(z, g.z, g.step, g.extent, v0.z, v1.z, v2.z);
-    if is_one(x, g.x, g.step, g.extent, v0.x, v1.x, v2.x) {
+    let in_y = is_one(y, first.y, l.step, l.extent, v0.y, v1.y, v2.y);
+    let in_z = is_one(z, first.z, l.step, l.extent, v0.z, v1.z, v2.z);
+    if is_one(x, first.x, l.step, l.extent, v0.x, v1.x, v2.x) {
         if in_y {
             return 3;
         }
@@ -127,62 +110,95 @@ fn is_one(r: CellRange, origin: i64, step: i64, extent: i64, a0: i64, a1: i64, a
 }
 
 // A triangle measured from the lowest corner of the first box, with its normal; columns along z.
-pub fn place(g: Lattice, b: BoxRange, v0: Vector, v1: Vector, v2: Vector) -> Placed
-    requires { ⌜ Sides g × BoundedLattice (boxesOf g) × BoundedTriangle (triangleOf v0 v1 v2) ⌝ }
-    ensures { λ r. ⌜ PlacedFor g b (triangleOf v0 v1 v2) r ⌝ }
+pub fn place(g: Grid, l: Lattice, b: BoxRange, t: Triangle) -> Placed
+    requires { ⌜ (g .nx ≤ 64) × (g .ny ≤ 64) × UsableLattice l × BoundedTriangle t ⌝ }
+    ensures { λ r. ⌜ r ≡ placedIn g l b t ⌝ }
 {
-    let origin = origin_of(g);
-    let p0 = measured_from(origin, v0);
-    let p1 = measured_from(origin, v1);
-    let p2 = measured_from(origin, v2);
-    let n = forms::normal(p0, p1, p2);
+    let measured = measured_from(l.first, t);
+    let n = normal(measured);
     let s = strides(g);
     Placed {
-        v0: p0,
-        v1: p1,
-        v2: p2,
+        t: measured,
         n,
         s,
         b,
     }
 }
 
-// A position, measured from the lowest corner of the first box.
-fn measured_from(origin: Vector, v: Vector) -> Vector
-    requires { ⌜ BoundedPoint (pointOf origin) × BoundedPoint (pointOf v) ⌝ }
-    ensures { λ r. ⌜ pointOf r ≡ minus (pointOf v) (pointOf origin) ⌝ }
+// The normal's component on the third axis, from the corners in the plane of two axes.
+fn component(a0: i64, b0: i64, a1: i64, b1: i64, a2: i64, b2: i64) -> i64
+    requires { ⌜ Withins (each offsetMax 6 []) (a0 ∷ b0 ∷ a1 ∷ b1 ∷ a2 ∷ b2 ∷ []) ⌝ }
+    ensures { λ r. ⌜ r ≡ component a0 b0 a1 b1 a2 b2 ⌝ }
 {
-    let x = v.x - origin.x;
-    let y = v.y - origin.y;
-    let z = v.z - origin.z;
-    Vector { x, y, z }
+    let a = a1 - a0;
+    let b = b1 - b0;
+    let c = a2 - a0;
+    let d = b2 - b0;
+    a * d - b * c
+}
+
+// A triangle's normal.
+fn normal(t: Triangle) -> Point
+    requires { ⌜ TriangleWithin offsetMax t ⌝ }
+    ensures { λ r. ⌜ r ≡ normal t ⌝ }
+{
+    let v0 = t.v0;
+    let v1 = t.v1;
+    let v2 = t.v2;
+    let x = component(v0.y, v0.z, v1.y, v1.z, v2.y, v2.z);
+    let y = component(v0.z, v0.x, v1.z, v1.x, v2.z, v2.x);
+    let z = component(v0.x, v0.y, v1.x, v1.y, v2.x, v2.y);
+    Point { x, y, z }
+}
+
+// A triangle, measured from the point `origin`.
+fn measured_from(origin: Point, t: Triangle) -> Triangle
+    requires { ⌜ BoundedPoint origin × BoundedTriangle t ⌝ }
+    ensures { λ r. ⌜ r ≡ measuredFrom origin t ⌝ }
+{
+    let v0 = difference(t.v0, origin);
+    let v1 = difference(t.v1, origin);
+    let v2 = difference(t.v2, origin);
+    Triangle { v0, v1, v2 }
+}
+
+// The vector from b to a.
+fn difference(a: Point, b: Point) -> Point
+    requires { ⌜ BoundedPoint a × BoundedPoint b ⌝ }
+    ensures { λ r. ⌜ r ≡ minus a b ⌝ }
+{
+    let x = a.x - b.x;
+    let y = a.y - b.y;
+    let z = a.z - b.z;
+    Point { x, y, z }
 }
 
 // The axes taken in turn: y, z, x.
 pub fn turned(p: Placed) -> Placed
-    ensures { λ r. ⌜ TurnedFrom p r ⌝ }
+    ensures { λ r. ⌜ r ≡ turnPlaced p ⌝ }
 {
-    let v0 = turn(p.v0);
-    let v1 = turn(p.v1);
-    let v2 = turn(p.v2);
+    let t = turn_triangle(p.t);
     let n = turn(p.n);
     let s = turn_strides(p.s);
     let b = turn_box(p.b);
-    Placed {
-        v0,
-        v1,
-        v2,
-        n,
-        s,
-        b,
-    }
+    Placed { t, n, s, b }
 }
 
-// The same, of a position or a normal.
-fn turn(v: Vector) -> Vector
-    ensures { λ r. ⌜ pointOf r ≡ turnPoint (pointOf v) ⌝ }
+// The same, of a triangle.
+fn turn_triangle(t: Triangle) -> Triangle
+    ensures { λ r. ⌜ r ≡ turnTriangle t ⌝ }
 {
-    Vector {
+    let v0 = turn(t.v0);
+    let v1 = turn(t.v1);
+    let v2 = turn(t.v2);
+    Triangle { v0, v1, v2 }
+}
+
+// The same, of a point or a vector.
+fn turn(v: Point) -> Point
+    ensures { λ r. ⌜ r ≡ turnPoint v ⌝ }
+{
+    Point {
         x: v.y,
         y: v.z,
         z: v.x,

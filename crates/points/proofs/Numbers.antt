@@ -12,7 +12,8 @@ use lib.IntN.{ℤ}
 use lib.ListN.{length, getD, set, take}
 use lib.Seq.{take-suc}
 use Rattle.points.specs.declared.Point.{Point}
-use Rattle.points.specs.Points.{numbersOf, withPoint}
+use Rattle.points.specs.Points.{numbersOf}
+use Rattle.points.specs.Inner.{withPoint}
 
 -- Three numbers put behind the first k.
 put-behind : (ns : List ℤ) (k : ℕ) (x y z : ℤ) → suc (suc k) < length ns

@@ -11,24 +11,22 @@ use borrow.Author.Tests.{le-leb, lt-leb}
 use lib.IntN.{ℤ}
 use lib.ListN.{length, take, length-take}
 use lib.Seq.{take-length}
-use Rattle.frame.specs.Fields.{headerOf}
-use Rattle.frame.specs.Layout.{version1}
-use Rattle.frame.specs.Limit.{refused}
-use Rattle.frame.specs.Questions.{asked}
-use Rattle.frame.proofs.Asking.{andThen, first-append, stopped}
-use Rattle.fill.specs.Steel.{gridAt, fillQuestions}
-use Rattle.route.specs.Route.{pointCount, countFits, pointQuestions, routeAnswer}
+use Rattle.refusal.specs.Limit.{refused}
+use Rattle.refusal.specs.Inner.{asked}
+use Rattle.refusal.proofs.Asking.{andThen, first-append, stopped}
+use Rattle.fill.specs.Fill.{gridOf, fillQuestions}
+use Rattle.demand.specs.Route.{pointCount, countFits, pointQuestions, routeAnswer}
 use Rattle.points.specs.declared.Point.{Point}
 use Rattle.points.specs.Points.{numbersOf}
 use Rattle.points.proofs.Numbers.{numbers-length}
 
 -- Questions 1 to 8 do not look at the points, and question 9 is answered no.
 nine : (s m : List ℕ) (ns : List ℤ) → countFits ns ≡ false
-    → routeAnswer s m ns ≡ andThen (asked (fillQuestions s (headerOf version1 s) (length m))) (refused 9 0)
+    → routeAnswer s m ns ≡ andThen (asked (fillQuestions s (length m))) (refused 9 0)
 unfolding routeAnswer
 nine s m ns e =
-    first-append _ (fillQuestions s (headerOf version1 s) (length m)) (pointQuestions (gridAt (headerOf version1 s)) ns)
-    ∙ ap (andThen (asked (fillQuestions s (headerOf version1 s) (length m)))) (stopped _ _ _ e)
+    first-append _ (fillQuestions s (length m)) (pointQuestions (gridOf s) ns)
+    ∙ ap (andThen (asked (fillQuestions s (length m)))) (stopped _ _ _ e)
 
 too-many : (ps : List Point) → 64 < length ps → countFits (numbersOf ps) ≡ false
 too-many ps l =

@@ -1,1 +1,3 @@
 pub mod Points
+-- inner
+pub mod Inner

@@ -3,9 +3,11 @@ use route::RouteAnswer;
 ghost use mathlib.Core.Path.{_≡_};
 ghost use Prim.Native.Nat.{_*_, _≤_, _<_, min};
 ghost use lib.ListN.{take};
-ghost use Rattle.route.specs.Route.{routeAnswer, saidRoute};
-ghost use Rattle.route.specs.Demand.{DemandOf};
-ghost use Rattle.points.specs.Points.{numbersOf, withPoint};
+ghost use Rattle.demand.specs.Route.{routeAnswer};
+ghost use Rattle.route.specs.Said.{saidRoute};
+ghost use Rattle.demand.specs.Demand.{DemandOf};
+ghost use Rattle.points.specs.Points.{numbersOf};
+ghost use Rattle.points.specs.Inner.{withPoint};
 
 // A point of a route.
 pub struct Point {

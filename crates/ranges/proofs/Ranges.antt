@@ -6,19 +6,20 @@ use mathlib.Core.Path.{_≡_, refl, sym, ap, ap₂, _∙_}
 use mathlib.Core.Bool.{Bool, true, false, _&&_, and-false, and-eq-true-iff}
 use mathlib.Core.List.{List, [], _∷_}
 use Prim.Native.Nat.{ℕ, _<_, _≤_}
-use native.Mathlib.Decide.{decLt}
+use native.Mathlib.Nat.{lt-of-not-le, le-of-suc-le-suc}
 use native.Mathlib.Omega.{arith}
 use borrow.Author.Tests.{ltb-true, leb-true, lt-ltb, le-leb}
 use lib.Dec.{leb, ltb}
 use lib.IntN.{ℤ, pos, negℤ, _+ℤ_, _-ℤ_, _*ℤ_}
 use lib.Signed.{_≤ℤ_, _<ℤ_}
-use Rattle.integers.specs.Order.{minℤ, maxℤ, Floor}
+use Rattle.integers.specs.Order.{minℤ, maxℤ}
+use Rattle.integers.specs.Inner.{Floor}
 use Rattle.integers.proofs.Omega.{zarith, +!, neg!, le-true, true-le}
 use Rattle.integers.proofs.Expr.{Expr, var, neg, _⊕_, _⊖_, _⊗_}
 use Rattle.integers.proofs.Certificates.{le, by-le}
 use Rattle.integers.proofs.Quotients.{≤-floor, floor-≤}
 use Rattle.integers.proofs.MinMax.{min!, max! }
-use Rattle.ranges.specs.declared.CellRange.{CellRange}
+use Rattle.grid.specs.declared.CellRange.{CellRange}
 use Rattle.ranges.specs.Range.{Picks, endsFrom, beginsBy}
 
 -- two tests that hold together are one
@@ -104,11 +105,7 @@ module _ (least greatest o e d : ℤ) (positive : pos 0 <ℤ e) where
 
 -- ---- one range
 not-less : {a b : ℕ} → (a < b → ⊥) → b ≤ a
-not-less {a} {b} h = go (decLt a b)
-  where
-    go : Dec (a < b) → b ≤ a
-    go (yes l) = absurd (h l)
-    go (no l) = omega arith
+not-less h = le-of-suc-le-suc (lt-of-not-le h)
 
 module _ {n : ℕ} {P Q : ℕ → Bool} where
   end-le : {r s : CellRange} → Picks n P Q r → Picks n P Q s → s .end ≤ r .end

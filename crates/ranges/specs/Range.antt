@@ -3,22 +3,18 @@ use mathlib.Core.List.{List, [], _∷_}
 use mathlib.Core.Path.{_≡_}
 use mathlib.Core.Bool.{Bool, _&&_}
 use Prim.Native.Nat.{ℕ, _^_, _≤_, _<_}
-use lib.Dec.{leb, ltb}
+use lib.Dec.{ltb}
 use lib.IntN.{ℤ, pos, _+ℤ_, _*ℤ_}
-use lib.Signed.{_<ℤ_, leZ}
-use Rattle.integers.specs.Within.{Within}
-use Rattle.overlap.specs.declared.Vector.{Vector}
-use Rattle.overlap.specs.Geometry.{Triangle, Axis, xOf, yOf, zOf, cube}
+use lib.Signed.{leZ}
+use Rattle.geometry.specs.declared.Triangle.{Triangle}
+use Rattle.geometry.specs.Geometry.{Axis, xOf, yOf, zOf, cube}
 use Rattle.overlap.specs.Rule.{leastHolds, greatestHolds}
-use Rattle.overlap.specs.Grid.{Lattice, boxCorner}
-use Rattle.overlap.specs.Vectors.{pointOf}
-use Rattle.overlap.specs.Bounds.{coordinateMax, stepMax, extentMax, BoundedPoint}
-use Rattle.ranges.specs.declared.CellRange.{CellRange}
-use Rattle.ranges.specs.declared.BoxRange.{BoxRange}
-
--- Cell i of an axis is in the range: from r.first on, and below r.end.
-abbrev pub inRange : CellRange → ℕ → Bool
-inRange r i = leb (r .first) i && ltb i (r .end)
+use Rattle.grid.specs.declared.Lattice.{Lattice}
+use Rattle.grid.specs.Grid.{boxCorner}
+use Rattle.geometry.specs.Bounds.{coordinateMax, stepMax, extentMax}
+use Rattle.grid.specs.declared.CellRange.{CellRange}
+use Rattle.grid.specs.declared.BoxRange.{BoxRange}
+use Rattle.grid.specs.Range.{inRange}
 
 -- Of the first n cells of an axis, those below r.end are the ones for which Q holds, and those in the range are the ones for which P holds too.
 -- Where no cell has both, the range is empty: it begins where it ends, behind the cells for which Q holds. So r is fixed (`picks-one` in proofs/Ranges).
@@ -50,16 +46,6 @@ pub record PicksBox (t : Triangle) (l : Lattice) (nx ny nz : ℕ) (r : BoxRange)
   pub z : Picks nz (leastOn t l zOf) (greatestOn t l zOf) (r .z)
 
 -- ---- what the functions ask: their numbers' bounds, in their parameters' order
--- The code's numbers, as a lattice.
-abbrev pub latticeOf : (origin : Vector) (step extent : ℤ) → Lattice
-latticeOf origin step extent = record { first = pointOf origin; step = step; extent = extent }
-
-pub record BoundedLattice (l : Lattice) : Type 0 where
-  pub first : BoundedPoint (l .first)
-  pub positive : pos 0 <ℤ l .step
-  pub step : Within stepMax (l .step)
-  pub extent : Within extentMax (l .extent)
-
 pub record Few (nx ny nz : ℕ) : Type 0 where
   pub x : nx < 2 ^ 63
   pub y : ny < 2 ^ 63

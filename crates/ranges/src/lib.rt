@@ -1,27 +1,18 @@
 // Ranges of cells: on each axis, the cells whose boxes a triangle's box touches.
-use overlap::Vector;
+use geometry::Point;
+use grid::BoxRange;
+use grid::CellRange;
+use grid::Lattice;
 ghost use mathlib.Core.List.{[], _∷_};
 ghost use Prim.Native.Nat.{_^_, _<_};
 ghost use lib.IntN.{pos};
 ghost use lib.Signed.{_<ℤ_};
 ghost use Rattle.integers.specs.Within.{Withins};
 ghost use Rattle.integers.specs.Order.{minℤ, maxℤ};
-ghost use Rattle.overlap.specs.Bounds.{BoundedTriangle};
-ghost use Rattle.overlap.specs.Vectors.{triangleOf};
-ghost use Rattle.ranges.specs.Range.{rangeBounds, axisBounds, Picks, endsFrom, beginsBy, latticeOf, BoundedLattice, Few, PicksBox};
-
-// The cells of an axis from `first` on and below `end`.
-pub struct CellRange {
-    pub first: usize,
-    pub end: usize,
-}
-
-// A range of cells on each axis.
-pub struct BoxRange {
-    pub x: CellRange,
-    pub y: CellRange,
-    pub z: CellRange,
-}
+ghost use Rattle.geometry.specs.Bounds.{BoundedTriangle};
+ghost use Rattle.geometry.specs.Geometry.{triangle};
+ghost use Rattle.grid.specs.Usable.{UsableLattice};
+ghost use Rattle.ranges.specs.Range.{rangeBounds, axisBounds, Picks, endsFrom, beginsBy, Few, PicksBox};
 
 // The cells of an axis whose boxes the closed range from `least` to `greatest` touches: the box of cell i begins at origin + i × step, and
 // is `extent` long. Where it touches none, the range is empty, behind the cells that begin at or before `greatest`.
@@ -65,23 +56,23 @@ fn axis_range(
     cell_range(least, greatest, origin, step, extent, cells)
 }
 
-// The cells whose box test holds for a triangle: a range on each axis.
+// The cells whose box test holds for a triangle: a range on each axis, of the boxes `l` of nx × ny × nz cells. The corners come one by one: the compiler
+// then draws this into both its callers.
 pub fn box_range(
-    v0: Vector,
-    v1: Vector,
-    v2: Vector,
-    origin: Vector,
-    step: i64,
-    extent: i64,
+    v0: Point,
+    v1: Point,
+    v2: Point,
+    l: Lattice,
     nx: usize,
     ny: usize,
     nz: usize,
 ) -> BoxRange
-    requires { ⌜ BoundedTriangle (triangleOf v0 v1 v2) × BoundedLattice (latticeOf origin step extent) × Few nx ny nz ⌝ }
-    ensures { λ r. ⌜ PicksBox (triangleOf v0 v1 v2) (latticeOf origin step extent) nx ny nz r ⌝ }
+    requires { ⌜ BoundedTriangle (triangle v0 v1 v2) × UsableLattice l × Few nx ny nz ⌝ }
+    ensures { λ r. ⌜ PicksBox (triangle v0 v1 v2) l nx ny nz r ⌝ }
 {
-    let x = axis_range(v0.x, v1.x, v2.x, origin.x, step, extent, nx);
-    let y = axis_range(v0.y, v1.y, v2.y, origin.y, step, extent, ny);
-    let z = axis_range(v0.z, v1.z, v2.z, origin.z, step, extent, nz);
+    let first = l.first;
+    let x = axis_range(v0.x, v1.x, v2.x, first.x, l.step, l.extent, nx);
+    let y = axis_range(v0.y, v1.y, v2.y, first.y, l.step, l.extent, ny);
+    let z = axis_range(v0.z, v1.z, v2.z, first.z, l.step, l.extent, nz);
     BoxRange { x, y, z }
 }

@@ -10,7 +10,9 @@ use native.Mathlib.Omega.{arith}
 use lib.IntN.{ℤ, pos, _*ℤ_}
 use Rattle.integers.proofs.Expr.{var, num, _⊕_, _⊗_}
 use Rattle.integers.proofs.Ring.{ring}
-use Rattle.overlap.specs.Geometry.{Point, Triangle, Axis, xOf, yOf, zOf}
+use Rattle.geometry.specs.declared.Point.{Point}
+use Rattle.geometry.specs.declared.Triangle.{Triangle}
+use Rattle.geometry.specs.Geometry.{Axis, xOf, yOf, zOf}
 use Rattle.reach.specs.Reaches.{weightedSum, weightedSumLeg, CommonOn, CommonPoint}
 
 -- Weights of a leg, or of a triangle, that give the point p.

@@ -1,20 +1,23 @@
--- Grids of cells. The cells of a grid cover its closed box, so a mean in the box is in a cell. Hence a block of cells is reached exactly when one of its cells
--- is; and a point in common of a leg, with its ends inside the grid, and a triangle lies in a cell that both reach.
+-- Grids of cells. The cells of a grid cover its closed box, so a mean in the box is in a cell. Hence a point in common of a leg, with its ends inside the
+-- grid, and a triangle lies in a cell that both reach.
 use mathlib.Core.Path.{_≡_, sym}
-use mathlib.Core.Logic.{_↔_, inl, inr}
+use mathlib.Core.Logic.{inl, inr}
 use mathlib.Core.List.{[], _∷_}
 use Prim.Native.Nat.{ℕ, zero, suc, _+_, _<_}
 use native.Mathlib.Numerals.{add-one}
 use native.Mathlib.Omega.{arith}
 use lib.IntN.{ℤ, pos, _+ℤ_, _*ℤ_}
 use lib.Signed.{_≤ℤ_}
-use Rattle.integers.proofs.Laws.{NN, nn-pos, pos-le, pos-lt, <→≤, ≤-or->}
+use Rattle.integers.proofs.Laws.{nn-pos, pos-lt, <→≤, ≤-or->}
 use Rattle.integers.proofs.Expr.{var, num, _⊕_, _⊗_}
 use Rattle.integers.proofs.Certificates.{nn, le, eq, _⊞_, _⊠_, by-le, by-le/}
-use Rattle.overlap.specs.Geometry.{Point, Triangle, Axis, xOf, yOf, zOf, cube}
-use Rattle.overlap.specs.Grid.{Grid, cellCorner, gridExtent}
-use Rattle.reach.specs.Reaches.{Between, weightedSumLeg, ReachesBox, Reaches, LegReaches, CommonPoint, InsideOn, InsideGrid}
-use Rattle.reach.proofs.Theorem.{reaches-around}
+use Rattle.geometry.specs.declared.Point.{Point}
+use Rattle.geometry.specs.declared.Triangle.{Triangle}
+use Rattle.geometry.specs.Geometry.{Axis, xOf, yOf, zOf, cube}
+use Rattle.grid.specs.declared.Grid.{Grid}
+use Rattle.grid.specs.Grid.{cellCorner, gridExtent}
+use Rattle.reach.specs.Reaches.{Between, weightedSumLeg, Reaches, LegReaches, CommonPoint}
+use Rattle.reach.specs.Inner.{InsideOn, InsideGrid}
 
 -- there are cells, and their edge is not negative
 pub record Proper (g : Grid) : Type 0 where
@@ -93,30 +96,6 @@ mean-cell {g} {w} {x} {y} {z} proper bx by bz =
       k-in = sz .small;
       holds = (record { from = sx .from; to = sx .to }, (record { from = sy .from; to = sy .to }, record { from = sz .from; to = sz .to }));
     }
-
--- ---- a block of cells
--- a cell's ends on an axis are within the block's
-within-block : {n i : ℕ} (o e : ℤ) → NN e → i < n → (o ≤ℤ (o +ℤ pos i *ℤ e)) × ((o +ℤ pos i *ℤ e +ℤ e) ≤ℤ (o +ℤ pos n *ℤ e))
-within-block {n} {i} o e he h =
-    let ρ = o ∷ e ∷ pos i ∷ pos n ∷ [] in let O = var 0 in let E = var 1 in let I = var 2 in let N = var 3 in (
-      by-le ρ O (O ⊕ I ⊗ E) (nn I (nn-pos i) ⊠ nn E he) tt,
-      by-le ρ (O ⊕ I ⊗ E ⊕ E) (O ⊕ N ⊗ E) (le (num 1 ⊕ I) N (pos-le (omega arith)) ⊠ nn E he) tt,
-    )
-
-pub block-reached : (g : Grid) (t : Triangle) → Proper g → ReachesBox t (g .origin) (gridExtent g) ↔ SomeCell g (λ p. Reaches t p (g .edge))
-block-reached g t proper = (to-cell, to-block)
-  where
-    to-cell : ReachesBox t (g .origin) (gridExtent g) → SomeCell g (λ p. Reaches t p (g .edge))
-    to-cell r =
-        weaken (mean-cell proper (r .x) (r .y) (r .z))
-        (λ p (x, (y, z)). record { w0 = r .w0; w1 = r .w1; w2 = r .w2; some = r .some; x = x; y = y; z = z })
-
-    to-block : SomeCell g (λ p. Reaches t p (g .edge)) → ReachesBox t (g .origin) (gridExtent g)
-    to-block c =
-        let (xl, xh) = within-block (g .origin .x) (g .edge) (proper .edge) (c .i-in) in
-        let (yl, yh) = within-block (g .origin .y) (g .edge) (proper .edge) (c .j-in) in
-        let (zl, zh) = within-block (g .origin .z) (g .edge) (proper .edge) (c .k-in) in
-        reaches-around t (record { low = xl; high = xh }) (record { low = yl; high = yh }) (record { low = zl; high = zh }) (c .holds)
 
 -- ---- a point in common
 -- a leg with its ends in the grid has its means there

@@ -7,7 +7,8 @@ use native.Mathlib.Omega.{arith}
 use lib.IntN.{ℤ, pos}
 use Rattle.integers.proofs.Expr.{var, num, _⊕_, _⊗_}
 use Rattle.integers.proofs.Ring.{ring}
-use Rattle.overlap.specs.Geometry.{Point, Axis, xOf, yOf, zOf, leg}
+use Rattle.geometry.specs.declared.Point.{Point}
+use Rattle.geometry.specs.Geometry.{Axis, xOf, yOf, zOf, leg}
 use Rattle.reach.specs.Reaches.{Between, ReachesBox, LegReachesBox, weightedSum, weightedSumLeg}
 
 -- the same total and the same weighted sum

@@ -12,7 +12,8 @@ use Rattle.integers.proofs.Laws.{NN, ≤-or->}
 use Rattle.integers.proofs.Expr.{Expr, num, _⊕_, _⊗_}
 use Rattle.integers.proofs.Ring.{ring}
 use Rattle.integers.proofs.Certificates.{Fact, nn, lt, nat, ps, weak, _⊞_, _⊠_, by-nn, by-lt}
-use Rattle.overlap.specs.Geometry.{Point, point, dot, cross}
+use Rattle.geometry.specs.declared.Point.{Point}
+use Rattle.geometry.specs.Geometry.{point, dot, cross}
 use Rattle.reach.proofs.Vectors.{Vector, vector, det, ones, combination, dotᴱ, crossᴱ, detᴱ, totalᴱ, onesᴱ, combinationᴱ, vec, _at_, negative}
 use Rattle.reach.proofs.Weights.{Weights, Feasible, more, rest, rotate, combination-dot, combination-weights, crossing}
 

@@ -13,7 +13,8 @@ use lib.Signed.{_≤ℤ_, _<ℤ_}
 use Rattle.integers.proofs.Laws.{NN, nn-pos, ≤-trans, ≤-or->, <→≤}
 use Rattle.integers.proofs.Expr.{var, num, _⊗_, _⊖_, neg}
 use Rattle.integers.proofs.Certificates.{nn, le, lt, nat, _⊞_, _⊠_, by-nn, by-le, by-lt, by-false}
-use Rattle.overlap.specs.Geometry.{Point, point, dot}
+use Rattle.geometry.specs.declared.Point.{Point}
+use Rattle.geometry.specs.Geometry.{point, dot}
 use Rattle.reach.proofs.Vectors.{Vector, vector, det, ones, turn, dotᴱ, detᴱ, totalᴱ, onesᴱ, turnᴱ, vec, _at_, negative}
 use Rattle.reach.proofs.Weights.{Feasible, rotate, turn-dot, turn-weights}
 

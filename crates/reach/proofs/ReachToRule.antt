@@ -11,14 +11,17 @@ use Rattle.integers.proofs.Laws.{NN, nn-pos, pos-lt, ≤-or->}
 use Rattle.integers.proofs.Expr.{var, num, _⊗_, _⊖_, neg}
 use Rattle.integers.proofs.Ring.{ring}
 use Rattle.integers.proofs.Certificates.{nn, le, lt, eq, _⊞_, _⊠_, by-le, by-false, by-nn/}
-use Rattle.overlap.specs.Geometry.{Point, point, dot, Triangle, xOf, yOf, zOf}
+use Rattle.integers.proofs.Orientation.{orientation, orientation-nn}
+use Rattle.geometry.specs.declared.Point.{Point}
+use Rattle.geometry.specs.declared.Triangle.{Triangle}
+use Rattle.geometry.specs.Geometry.{point, dot, xOf, yOf, zOf}
 use Rattle.overlap.specs.Rule.{Side, step, corner, normal}
 use Rattle.reach.specs.Reaches.{ReachesBox}
 use Rattle.reach.proofs.Vectors.{vector, total, det, ones, turn, minusᴱ, dotᴱ, crossᴱ, totalᴱ, detᴱ, onesᴱ, turnᴱ, vec, _at_}
 use Rattle.reach.proofs.Weights.{Weights, turn-dot, turn-weights}
 use Rattle.reach.proofs.Quadrant.{Some}
 use Rattle.reach.proofs.Sides.{on, sign, sign-square, against, onSideᴱ, side, Spans, between, normal-det}
-use Rattle.reach.proofs.Tests.{Cut, orientation, orientation-nn, besideᴱ, EdgeTest, EdgeTests, Passes}
+use Rattle.reach.proofs.Tests.{Cut, besideᴱ, EdgeTest, EdgeTests, Passes}
 
 -- ---- boxes: if no corner satisfied a side, no weights would
 some-corner : (f w : Point) → Weights w → NN (dot f w) → Some f

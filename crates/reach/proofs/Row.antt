@@ -2,10 +2,9 @@
 --     row-reaches     a triangle within the box on the first two axes, whose own box touches it on the third
 --     row-holds       the rule
 -- Assumes nothing.
-use mathlib.Core.Bool.{true}
 use mathlib.Core.List.{List, [], _∷_}
 use mathlib.Core.Logic.{_⊎_, inl, inr}
-use mathlib.Core.Path.{_≡_, sym, subst}
+use mathlib.Core.Path.{_≡_, subst}
 use lib.Dec.{T}
 use lib.IntN.{ℤ, pos, negsuc, _+ℤ_, _-ℤ_, _*ℤ_}
 use lib.Signed.{_≤ℤ_}
@@ -15,7 +14,9 @@ use Rattle.integers.proofs.Laws.{NN, nn-add, nn-mul, nn-pos}
 use Rattle.integers.proofs.Expr.{lit, var, num, _⊕_, _⊖_, _⊗_}
 use Rattle.integers.proofs.Certificates.{le, by-nn}
 use Rattle.integers.proofs.MinMax.{min!, max!, min-either, max-either}
-use Rattle.overlap.specs.Geometry.{Point, point, dot, Triangle, Axis, xOf, yOf, zOf}
+use Rattle.geometry.specs.declared.Point.{Point}
+use Rattle.geometry.specs.declared.Triangle.{Triangle}
+use Rattle.geometry.specs.Geometry.{point, dot, Axis, xOf, yOf, zOf}
 use Rattle.overlap.specs.Rule.{Side, low, high, least3, greatest3, overlapsBox}
 use Rattle.reach.specs.Reaches.{ReachesBox}
 use Rattle.reach.proofs.Weights.{Weights, Satisfies, Feasible}

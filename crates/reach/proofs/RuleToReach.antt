@@ -8,7 +8,10 @@ use lib.Signed.{_≤ℤ_, _<ℤ_}
 use Rattle.integers.proofs.Laws.{NN, lt-pos}
 use Rattle.integers.proofs.Expr.{var, num, _⊗_, _⊖_, neg}
 use Rattle.integers.proofs.Certificates.{nn, le, eq, ps, weak, sq, _⊞_, _⊠_, by-nn, by-le}
-use Rattle.overlap.specs.Geometry.{Point, point, dot, Triangle, xOf, yOf, zOf}
+use Rattle.integers.proofs.Orientation.{orientation, orientation-nn}
+use Rattle.geometry.specs.declared.Point.{Point}
+use Rattle.geometry.specs.declared.Triangle.{Triangle}
+use Rattle.geometry.specs.Geometry.{point, dot, xOf, yOf, zOf}
 use Rattle.overlap.specs.Rule.{Side, low, high, step, corner, offset}
 use Rattle.reach.specs.Reaches.{ReachesBox}
 use Rattle.reach.proofs.Vectors.{vector, det, ones, minusᴱ, dotᴱ, crossᴱ, detᴱ, onesᴱ, vec, _at_}
@@ -17,7 +20,7 @@ use Rattle.reach.proofs.Slab.{six-sides}
 use Rattle.reach.proofs.Quadrant.{Some, IsSign, plus, minus, Crosses, quadrant}
 use Rattle.reach.proofs.Octant.{octant}
 use Rattle.reach.proofs.Sides.{on, sign, sign-square, against, onSide, onSideᴱ, side, each-side, Size, facing, inside, between, Spans, normal-det}
-use Rattle.reach.proofs.Tests.{orientation, orientation-sign, orientation-nn, besideᴱ, EdgeTest, EdgeTests, Passes}
+use Rattle.reach.proofs.Tests.{orientation-sign, besideᴱ, EdgeTest, EdgeTests, Passes}
 
 -- ---- two sides: the edges of the triangle, seen from the sides α and β
 sign-sign : (α : Side) → IsSign (sign α)

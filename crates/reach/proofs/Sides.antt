@@ -11,7 +11,9 @@ use Rattle.integers.proofs.Laws.{NN, ≤-or->}
 use Rattle.integers.proofs.Expr.{Expr, lit, var, num, _⊕_, _⊗_, _⊖_}
 use Rattle.integers.proofs.Ring.{ring}
 use Rattle.integers.proofs.Certificates.{nn, le, lt, ps, weak, nat, _⊠_, by-nn, by-le}
-use Rattle.overlap.specs.Geometry.{Point, point, dot, Triangle, Axis}
+use Rattle.geometry.specs.declared.Point.{Point}
+use Rattle.geometry.specs.declared.Triangle.{Triangle}
+use Rattle.geometry.specs.Geometry.{point, dot, Axis}
 use Rattle.overlap.specs.Rule.{Side, low, high, step}
 use Rattle.reach.specs.Reaches.{Between, weightedSum}
 use Rattle.reach.proofs.Vectors.{Vector, vector, det, ones, dotᴱ, detᴱ, totalᴱ, onesᴱ, vec, _at_}

@@ -7,7 +7,8 @@ use lib.IntN.{pos, _+ℤ_}
 use Rattle.integers.proofs.Laws.{NN, ≤-or->}
 use Rattle.integers.proofs.Expr.{var, _⊕_, _⊗_}
 use Rattle.integers.proofs.Certificates.{nn, _⊞_, _⊠_, by-le}
-use Rattle.overlap.specs.Geometry.{Point, dot}
+use Rattle.geometry.specs.declared.Point.{Point}
+use Rattle.geometry.specs.Geometry.{dot}
 use Rattle.overlap.specs.Rule.{Side, low, high}
 use Rattle.reach.proofs.Vectors.{negative}
 use Rattle.reach.proofs.Weights.{Weights, Feasible, rest, rotate, crossing}

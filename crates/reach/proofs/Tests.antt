@@ -5,20 +5,21 @@
 -- Both halves of the theorem stand on these statements (`Passes`), and nothing after this file has a least, a greatest or a Boolean.
 use mathlib.Core.Path.{_≡_, sym, _∙_, ap₂, subst}
 use mathlib.Core.Logic.{_↔_, _⊎_, inl, inr, Iff·trans}
-use mathlib.Core.Bool.{Bool, true, false, cond, _&&_, not}
+use mathlib.Core.Bool.{Bool, true, false, cond, _&&_}
 use mathlib.Core.List.{[], _∷_}
 use lib.Dec.{T}
 use lib.IntN.{ℤ, pos, negsuc, negℤ, _+ℤ_, _-ℤ_, _*ℤ_, +ℤ-idr, zero-*ℤ}
-use lib.Signed.{_≤ℤ_, _<ℤ_, leZ, ltZ, leZ-yes, ltZ-yes, ltZ-no, ≤ℤ-refl}
+use lib.Signed.{_≤ℤ_, leZ, ltZ, leZ-yes, ≤ℤ-refl}
 use Rattle.integers.specs.Order.{minℤ, maxℤ}
 use Rattle.integers.proofs.Laws.{NN, ≤-trans, ≤-add}
 use Rattle.integers.proofs.Expr.{Expr, lit, var, num, _⊕_, _⊗_, _⊖_, neg}
-use Rattle.integers.proofs.Ring.{ring1}
-use Rattle.integers.proofs.Certificates.{nn, le, lt, ze, _⊞_, _⊹_, by-nn, by-le, by-eq}
+use Rattle.integers.proofs.Certificates.{nn, le, ze, _⊞_, _⊹_, by-nn, by-le, by-eq}
 use Rattle.integers.proofs.MinMax.{min-≤-left, min-≤-right, min-either, ≤-max-left, ≤-max-right, max-either}
-use Rattle.overlap.specs.Geometry.{Point, point, Triangle, Axis, xOf, yOf, zOf}
-use Rattle.overlap.specs.Rule.{normal, boxHolds, Side, low, high, step, corner, offset, overSides, overCorners, planeHolds}
-use Rattle.overlap.specs.Rule.{turned, edgeValue, overlapsBox, greatest3, least3, greatest8, least8}
+use Rattle.integers.proofs.Orientation.{orientation, turned-by}
+use Rattle.geometry.specs.declared.Point.{Point}
+use Rattle.geometry.specs.declared.Triangle.{Triangle}
+use Rattle.geometry.specs.Geometry.{point, Axis, xOf, yOf, zOf}
+use Rattle.overlap.specs.Rule.{normal, boxHolds, Side, low, high, step, corner, offset, overSides, overCorners, planeHolds, turned, edgeValue, overlapsBox, greatest3, least3, greatest8, least8}
 use Rattle.reach.proofs.Quadrant.{Some, IsSign, plus, minus}
 use Rattle.reach.proofs.Sides.{on, sign, onSide, side, each-side}
 
@@ -149,30 +150,13 @@ plane-test t p d =
     two-sided (Cut t p d) (least8 t p d) (greatest8 t p d) (pos 0) (pos 0) (of-corners high (pos 0) f) (of-corners low (pos 0) f)
 
 -- ---- the edges
--- 1, or −1 when n < 0: the sign by which the rule turns an edge's normal inward
-abbrev pub orientation : ℤ → ℤ
-orientation n = cond (ltZ n (pos 0)) (negsuc 0) (pos 1)
-
+-- the orientation of n is the sign by which the rule turns an edge's normal inward
 pub orientation-sign : (n : ℤ) → IsSign (orientation n)
 orientation-sign n = go (ltZ n (pos 0))
   where
     go : (c : Bool) → IsSign (cond c (negsuc 0) (pos 1))
     go true = minus
     go false = plus
-
-pub orientation-nn : (n : ℤ) → NN (orientation n *ℤ n)
-orientation-nn n = go (ltZ n (pos 0)) (λ h. ltZ-yes h) (λ h. ltZ-no h)
-  where
-    go : (c : Bool) → (T c → n <ℤ pos 0) → (T (not c) → NN n) → NN (cond c (negsuc 0) (pos 1) *ℤ n)
-    go true h k = by-nn (n ∷ []) (lit (negsuc 0) ⊗ var 0) (lt (var 0) (num 0) (h tt)) tt
-    go false h k = by-nn (n ∷ []) (num 1 ⊗ var 0) (nn (var 0) (k tt)) tt
-
-turned-by : (n c : ℤ) → turned n c ≡ orientation n *ℤ c
-turned-by n c = go (ltZ n (pos 0))
-  where
-    go : (k : Bool) → cond k (negℤ c) c ≡ cond k (negsuc 0) (pos 1) *ℤ c
-    go true = ring1 (λ x. neg x) (λ x. lit (negsuc 0) ⊗ x) tt c
-    go false = ring1 (λ x. x) (λ x. num 1 ⊗ x) tt c
 
 -- of the multiples 0 · m and d · m, the greatest belongs to a side, and is at least that of either side
 greatest-at : (d m : ℤ) → (α : Side) × (maxℤ (pos 0) (d *ℤ m) ≡ step α d *ℤ m)

@@ -1,6 +1,6 @@
 -- The theorem: the overlap rule is exactly "reaches", for every triangle, flat ones too, and every box whose size is not negative. There is no bound on the
 -- numbers. In the field's terms, the rule's axes are all that can separate a closed triangle from a closed box.
--- And a first consequence: the rule is monotone in the box. What passes for a box passes for every box around it.
+-- And what reaches a box reaches every box around it.
 use mathlib.Core.Logic.{_↔_}
 use mathlib.Core.List.{[], _∷_}
 use Prim.Native.Nat.{ℕ}
@@ -10,8 +10,10 @@ use lib.Signed.{_≤ℤ_}
 use Rattle.integers.proofs.Laws.{nn-pos}
 use Rattle.integers.proofs.Expr.{var, _⊗_}
 use Rattle.integers.proofs.Certificates.{nn, le, _⊞_, _⊠_, by-le}
-use Rattle.overlap.specs.Geometry.{Point, Triangle, Axis, xOf, yOf, zOf, cube}
-use Rattle.overlap.specs.Rule.{overlapsBox, overlaps}
+use Rattle.geometry.specs.declared.Point.{Point}
+use Rattle.geometry.specs.declared.Triangle.{Triangle}
+use Rattle.geometry.specs.Geometry.{Axis, xOf, yOf, zOf, cube}
+use Rattle.overlap.specs.Rule.{overlapsBox}
 use Rattle.reach.specs.Reaches.{Between, ReachesBox, Reaches}
 use Rattle.reach.proofs.Sides.{Size}
 use Rattle.reach.proofs.Tests.{rule-tests}
@@ -23,11 +25,11 @@ pub box-rule : (t : Triangle) (p d : Point) → Size d → T (overlapsBox t p d)
 box-rule t p d size = (λ h. rule-to-reach size (rule-tests t p d .iff .0 h), λ r. rule-tests t p d .iff .1 (reach-to-rule r))
 
 -- a cell
-pub cell-rule : (t : Triangle) (p : Point) (s : ℤ) → pos 0 ≤ℤ s → T (overlaps t p s) ↔ Reaches t p s
-unfolding overlaps
+pub cell-rule : (t : Triangle) (p : Point) (s : ℤ) → pos 0 ≤ℤ s → T (overlapsBox t p (cube s)) ↔ Reaches t p s
 cell-rule t p s h = box-rule t p (cube s) (record { x = h; y = h; z = h })
 
 -- ---- a box around a box, from p′ to p′ + d′, around p to p + d on an axis
+-- Change request 14 (the same steel at half the cell) awaits `reaches-around`: a coarse cell is around each of its eight fine ones.
 pub record Around (p d p′ d′ : Point) (a : Axis) : Type 0 where
   pub low : a p′ ≤ℤ a p
   pub high : (a p +ℤ a d) ≤ℤ (a p′ +ℤ a d′)
@@ -44,6 +46,3 @@ wider {p} {d} {p′} {d′} {w} {a} {s} h b =
 module _ (t : Triangle) {p d p′ d′ : Point} (x : Around p d p′ d′ xOf) (y : Around p d p′ d′ yOf) (z : Around p d p′ d′ zOf) where
   pub reaches-around : ReachesBox t p d → ReachesBox t p′ d′
   reaches-around r = record { w0 = r .w0; w1 = r .w1; w2 = r .w2; some = r .some; x = wider x (r .x); y = wider y (r .y); z = wider z (r .z) }
-
-  pub overlaps-around : Size d → T (overlapsBox t p d) → T (overlapsBox t p′ d′)
-  overlaps-around size h = rule-tests t p′ d′ .iff .1 (reach-to-rule (reaches-around (box-rule t p d size .0 h)))

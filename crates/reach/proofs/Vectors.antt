@@ -8,7 +8,8 @@ use lib.Signed.{_<ℤ_}
 use Rattle.integers.proofs.Laws.{<→≤}
 use Rattle.integers.proofs.Expr.{Expr, eval, var, num, _⊕_, _⊖_, _⊗_}
 use Rattle.integers.proofs.Certificates.{Fact, le}
-use Rattle.overlap.specs.Geometry.{Point, point, dot, cross}
+use Rattle.geometry.specs.declared.Point.{Point}
+use Rattle.geometry.specs.Geometry.{point, dot, cross}
 
 -- ---- points
 -- the sum of the three numbers

@@ -10,7 +10,8 @@ use Rattle.integers.proofs.Laws.{NN, nn-pos, nn-add, nn-mul, ≤-of-eq}
 use Rattle.integers.proofs.Expr.{var, num, _⊕_, _⊗_, neg}
 use Rattle.integers.proofs.Ring.{ring}
 use Rattle.integers.proofs.Certificates.{nn, le, lt, _⊞_, _⊠_, by-nn, by-lt}
-use Rattle.overlap.specs.Geometry.{Point, dot}
+use Rattle.geometry.specs.declared.Point.{Point}
+use Rattle.geometry.specs.Geometry.{dot}
 use Rattle.reach.proofs.Vectors.{total, totalᴱ, dotᴱ, combination, combinationᴱ, turn, turnᴱ, vec, _at_}
 
 -- none of the weights is negative, and not all are 0

@@ -1,1 +1,3 @@
 pub mod Reaches
+-- inner
+pub mod Inner

@@ -3,8 +3,9 @@ use mathlib.Core.Path.{_≡_}
 use Prim.Native.Nat.{ℕ, _+_, _<_}
 use lib.IntN.{ℤ, pos, _+ℤ_, _*ℤ_}
 use lib.Signed.{_≤ℤ_}
-use Rattle.overlap.specs.Geometry.{Point, Triangle, Axis, xOf, yOf, zOf, cube}
-use Rattle.overlap.specs.Grid.{Grid, gridExtent}
+use Rattle.geometry.specs.declared.Point.{Point}
+use Rattle.geometry.specs.declared.Triangle.{Triangle}
+use Rattle.geometry.specs.Geometry.{Axis, xOf, yOf, zOf, cube}
 
 -- The weighted sum, on an axis, of a triangle's three corners, or of a leg's two ends.
 abbrev pub weightedSum : Triangle → (w0 w1 w2 : ℕ) → Axis → ℤ
@@ -61,13 +62,3 @@ pub record CommonPoint (a b : Point) (t : Triangle) : Type 0 where
   pub x : CommonOn a b t l0 l1 w0 w1 w2 xOf
   pub y : CommonOn a b t l0 l1 w0 w1 w2 yOf
   pub z : CommonOn a b t l0 l1 w0 w1 w2 zOf
-
--- A point lies in the grid's closed box.
-pub record InsideOn (g : Grid) (q : Point) (c : Axis) : Type 0 where
-  pub from : c (g .origin) ≤ℤ c q
-  pub to : c q ≤ℤ (c (g .origin) +ℤ c (gridExtent g))
-
-pub record InsideGrid (g : Grid) (q : Point) : Type 0 where
-  pub x : InsideOn g q xOf
-  pub y : InsideOn g q yOf
-  pub z : InsideOn g q zOf

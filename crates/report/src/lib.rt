@@ -1,12 +1,12 @@
 // What the programs that test print: a case's name, and then the answer in words and numbers, on standard output. Of
 // those programs' code this alone takes a header and a record apart, so that a change of those structs is a change here.
 use fill::Filling;
-use frame::Header;
-use frame::Limit;
-use frame::Position;
 use frame::Reading;
-use frame::Triangle;
+use geometry::Point;
+use layout::Header;
+use layout::Record;
 use libc::STDOUT_FILENO;
+use refusal::Limit;
 use route::RouteAnswer;
 
 // Begins the line of a case: its name and a colon.
@@ -28,9 +28,9 @@ pub fn reading(answer: Reading) {
             show_header(header);
             io::write_all(STDOUT_FILENO, b" NO RECORD");
         }
-        Reading::Found(header, triangle) => {
+        Reading::Found(header, record) => {
             show_header(header);
-            show_record(triangle);
+            show_record(record);
         }
     }
 }
@@ -83,29 +83,26 @@ pub fn bytes(s: &[u8]) {
 // The header's values: version, cells, edge, origin and count.
 fn show_header(header: Header) {
     labelled(b" HEADER", header.version as u64);
-    let cells = header.cells;
-    natural(cells.x as u64);
-    natural(cells.y as u64);
-    natural(cells.z as u64);
-    integer(header.edge);
-    let origin = header.origin;
-    show_position(origin);
+    let g = header.grid;
+    natural(g.nx as u64);
+    natural(g.ny as u64);
+    natural(g.nz as u64);
+    integer(g.edge);
+    show_point(g.origin);
     natural(header.count as u64);
 }
 
 // A record's ten numbers.
-fn show_record(triangle: Triangle) {
-    labelled(b" RECORD", triangle.kind as u64);
-    let v0 = triangle.v0;
-    let v1 = triangle.v1;
-    let v2 = triangle.v2;
-    show_position(v0);
-    show_position(v1);
-    show_position(v2);
+fn show_record(record: Record) {
+    labelled(b" RECORD", record.kind as u64);
+    let t = record.triangle;
+    show_point(t.v0);
+    show_point(t.v1);
+    show_point(t.v2);
 }
 
-// The three numbers of a position.
-fn show_position(p: Position) {
+// The three numbers of a point.
+fn show_point(p: Point) {
     integer(p.x);
     integer(p.y);
     integer(p.z);

@@ -1,4 +1,1 @@
-pub mod Route
-pub mod Demand
-pub mod Search
-pub mod Worked
+pub mod Said

@@ -1,35 +1,25 @@
 -- A run, narrowed by tests.
 -- Assumes nothing.
-use mathlib.Core.Bool.{Bool, true, false, _&&_, _||_, and-eq-true-iff, and-true, and-assoc}
+use mathlib.Core.Bool.{Bool, true, false, _&&_, and-eq-true-iff, and-true, and-assoc}
 use mathlib.Core.List.{[], _∷_}
 use mathlib.Core.Path.{_≡_, refl, sym, ap, _∙_}
 use Prim.Native.Nat.{ℕ, _≤_, _<_}
+use native.Mathlib.Nat.{lt-of-not-le, le-of-suc-le-suc}
 use native.Mathlib.Decide.{decLt}
 use native.Mathlib.Omega.{arith}
 use borrow.Author.Tests.{le-leb, lt-ltb, ltb-true, leb-true}
 use lib.Dec.{leb, ltb}
-use lib.IntN.{ℤ, pos, negℤ, _+ℤ_, _-ℤ_, _*ℤ_}
-use lib.Signed.{_≤ℤ_, _<ℤ_, leZ}
+use lib.IntN.{ℤ, pos, negℤ, _-ℤ_}
+use lib.Signed.{_≤ℤ_, _<ℤ_, leZ, clashℤ}
 use Rattle.integers.proofs.Omega.{zarith, -!, true-le, le-true}
 use Rattle.integers.proofs.Expr.{var, num, neg, _⊕_, _⊖_, _⊗_}
 use Rattle.integers.proofs.Ring.{ring}
-use Rattle.ranges.specs.declared.CellRange.{CellRange}
-use Rattle.ranges.specs.Range.{inRange}
-use Rattle.runs.specs.Run.{formAt, passes, Passing, Failing, Splits, Narrows, inSlab}
+use Rattle.grid.specs.declared.CellRange.{CellRange}
+use Rattle.grid.specs.Range.{inRange}
+use Rattle.runs.specs.Run.{formAt, passes, FormHolds, FormFails, Splits, Narrows, inSlab}
 
 le-of-not-lt : {a b : ℕ} → (b < a → ⊥) → a ≤ b
-le-of-not-lt {a} {b} f = go (decLt b a)
-  where
-    go : Dec (b < a) → a ≤ b
-    go (yes h) = absurd (f h)
-    go (no h) = omega arith
-
-lt-of-not-le : {a b : ℕ} → (b ≤ a → ⊥) → a < b
-lt-of-not-le {a} {b} f = go (decLt a b)
-  where
-    go : Dec (a < b) → a < b
-    go (yes h) = h
-    go (no h) = absurd (f (omega arith))
+le-of-not-lt f = le-of-suc-le-suc (lt-of-not-le f)
 
 -- two truths that follow from one another
 pub same : (a b : Bool) → (a ≡ true → b ≡ true) → (b ≡ true → a ≡ true) → a ≡ b
@@ -64,23 +54,17 @@ module _ (first end r : ℕ) (step at : ℤ) where
   abbrev run : CellRange
   run = record { first = first; end = end }
 
-  pub by-rising : Splits first end (Failing step at) (Passing step at) r → Narrows run (passes step at) (record { first = r; end = end })
+  pub by-rising : Splits first end (FormFails step at) (FormHolds step at) r → Narrows run (passes step at) (record { first = r; end = end })
   by-rising h =
       narrows run (record { first = r; end = end }) (passes step at) (h .to) (h .from) (omega arith)
       (λ k l u. let p = h .above k l u in omega zarith)
-      (λ k l u e. (le-of-not-lt (λ b. let p = h .below k l b in clash p e), u))
-    where
-      clash : {x : ℤ} → x <ℤ pos 0 → leZ (pos 0) x ≡ true → ⊥
-      clash p e = omega zarith
+      (λ k l u e. (le-of-not-lt (λ b. clashℤ (h .below k l b) (le-true (pos 0) (formAt step at k) e)), u))
 
-  pub by-falling : Splits first end (Passing step at) (Failing step at) r → Narrows run (passes step at) (record { first = first; end = r })
+  pub by-falling : Splits first end (FormHolds step at) (FormFails step at) r → Narrows run (passes step at) (record { first = first; end = r })
   by-falling h =
       narrows run (record { first = first; end = r }) (passes step at) (h .from) (omega arith) (h .to)
       (λ k l u. let p = h .below k l u in omega zarith)
-      (λ k l u e. (l, lt-of-not-le (λ b. let p = h .above k b u in clash p e)))
-    where
-      clash : {x : ℤ} → x <ℤ pos 0 → leZ (pos 0) x ≡ true → ⊥
-      clash p e = omega zarith
+      (λ k l u e. (l, lt-of-not-le (λ b. clashℤ (h .above k b u) (le-true (pos 0) (formAt step at k) e))))
 
 -- ---- by a slab
 module _ (step at reach : ℤ) where
@@ -104,21 +88,18 @@ module _ (step at reach : ℤ) where
   not-past {x} {y} e h = omega (zarith, -! x reach, -! (x -ℤ reach) (pos 1))
 
   pub in-slab : {run : CellRange} {hint up first end : ℕ} → run .first ≤ hint → hint ≤ run .end
-      → Splits hint (run .end) (Failing step at) (Passing step at) up
-      → Splits (run .first) up (Passing (negℤ step) (negℤ at -ℤ pos 1)) (Failing (negℤ step) (negℤ at -ℤ pos 1)) first
-      → Splits first (run .end) (Failing step (at -ℤ reach -ℤ pos 1)) (Passing step (at -ℤ reach -ℤ pos 1)) end
+      → Splits hint (run .end) (FormFails step at) (FormHolds step at) up
+      → Splits (run .first) up (FormHolds (negℤ step) (negℤ at -ℤ pos 1)) (FormFails (negℤ step) (negℤ at -ℤ pos 1)) first
+      → Splits first (run .end) (FormFails step (at -ℤ reach -ℤ pos 1)) (FormHolds step (at -ℤ reach -ℤ pos 1)) end
       → Narrows run (inSlab step at reach) (record { first = first; end = end })
   in-slab {run} {hint} {up} {first} {end} l h a b c =
       narrows run (record { first = first; end = end }) (inSlab step at reach) (c .from) (b .from) (c .to)
       (λ k lo hi. and-eq-true-iff (passes step at k) (leZ (formAt step at k) reach) .1
       (true-le (pos 0) (formAt step at k) (low k lo (omega (arith, c .to))), true-le (formAt step at k) reach (not-past (shifted k) (c .below k lo hi))))
       (λ k lo hi e. let (p, q) = and-eq-true-iff (passes step at k) (leZ (formAt step at k) reach) .0 e in
-      let f = le-of-not-lt (λ n. clash (le-true (pos 0) (formAt step at k) p) (below-zero (mirrored k) (b .below k lo n))) in
-      (f, lt-of-not-le (λ n. clash (le-true (formAt step at k) reach q) (past (shifted k) (c .above k n hi)))))
+      let f = le-of-not-lt (λ n. clashℤ (below-zero (mirrored k) (b .below k lo n)) (le-true (pos 0) (formAt step at k) p)) in
+      (f, lt-of-not-le (λ n. clashℤ (past (shifted k) (c .above k n hi)) (le-true (formAt step at k) reach q))))
     where
-      clash : {x y : ℤ} → x ≤ℤ y → y <ℤ x → ⊥
-      clash p e = omega zarith
-
       low : (k : ℕ) → first ≤ k → k < run .end → pos 0 ≤ℤ formAt step at k
       low k lo hi = go (decLt k up)
         where

@@ -1,1 +1,2 @@
+-- inner
 pub mod Run

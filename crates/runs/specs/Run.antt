@@ -1,13 +1,12 @@
 -- A run of cells, from `first` on and below `end`, cut by a form step × k + at of the cell's number k. Definitions only.
-use mathlib.Core.Bool.{Bool, _&&_, _||_}
-use mathlib.Core.List.{[], _∷_}
+use mathlib.Core.Bool.{Bool, _&&_}
 use mathlib.Core.Path.{_≡_}
 use Prim.Native.Nat.{ℕ, _+_, _^_, _≤_, _<_}
 use lib.IntN.{ℤ, pos, _+ℤ_, _*ℤ_}
 use lib.Signed.{_≤ℤ_, _<ℤ_, leZ}
 use Rattle.integers.specs.Within.{Within}
-use Rattle.ranges.specs.declared.CellRange.{CellRange}
-use Rattle.ranges.specs.Range.{inRange}
+use Rattle.grid.specs.declared.CellRange.{CellRange}
+use Rattle.grid.specs.Range.{inRange}
 
 -- The form at cell k, and its test.
 abbrev pub formAt : (step at : ℤ) → ℕ → ℤ
@@ -16,11 +15,11 @@ formAt step at k = step *ℤ pos k +ℤ at
 abbrev pub passes : (step at : ℤ) → ℕ → Bool
 passes step at k = leZ (pos 0) (formAt step at k)
 
-abbrev pub Passing : (step at : ℤ) → ℕ → Type 0
-Passing step at k = pos 0 ≤ℤ formAt step at k
+abbrev pub FormHolds : (step at : ℤ) → ℕ → Type 0
+FormHolds step at k = pos 0 ≤ℤ formAt step at k
 
-abbrev pub Failing : (step at : ℤ) → ℕ → Type 0
-Failing step at k = formAt step at k <ℤ pos 0
+abbrev pub FormFails : (step at : ℤ) → ℕ → Type 0
+FormFails step at k = formAt step at k <ℤ pos 0
 
 -- How large a form's coefficient and its constant may be, so that no value of it leaves 64 bits.
 abbrev pub slopeMax : ℕ
@@ -56,6 +55,7 @@ SteppingIn run = Stepping (run .first) (run .end)
 abbrev pub inSlab : (step at reach : ℤ) → ℕ → Bool
 inSlab step at reach k = passes step at k && leZ (formAt step at k) reach
 
+-- How large a slab's constant and its reach may be.
 abbrev pub slabMax : ℕ
 slabMax = 2 ^ 62 + 2 ^ 61
 

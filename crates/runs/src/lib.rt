@@ -1,13 +1,13 @@
 // Runs of cells in a row or a column, cut by linear forms of the cell's number.
-use ranges::CellRange;
+use grid::CellRange;
 ghost use lib.IntN.{pos};
 ghost use lib.Signed.{_≤ℤ_};
-ghost use Rattle.runs.specs.Run.{Passing, Failing, Stepping, Splits, passes, SteppingIn, Narrows, inSlab, SlabReady};
+ghost use Rattle.runs.specs.Run.{FormHolds, FormFails, Stepping, Splits, passes, SteppingIn, Narrows, inSlab, SlabReady};
 
 // The first cell of a run at which step × k + at is not negative, or the run's end. The form does not fall.
 fn raised(first: usize, end: usize, step: i64, at: i64) -> usize
     requires { ⌜ Stepping first end step at × (pos 0 ≤ℤ step) ⌝ }
-    ensures { λ r. ⌜ Splits first end (Failing step at) (Passing step at) r ⌝ }
+    ensures { λ r. ⌜ Splits first end (FormFails step at) (FormHolds step at) r ⌝ }
 {
     let start = integers::from_index(first);
     let mut k = first;
@@ -25,7 +25,7 @@ fn raised(first: usize, end: usize, step: i64, at: i64) -> usize
 // The end of the cells of a run at which step × k + at is not negative. The form does not rise.
 fn lowered(first: usize, end: usize, step: i64, at: i64) -> usize
     requires { ⌜ Stepping first end step at × (step ≤ℤ pos 0) ⌝ }
-    ensures { λ r. ⌜ Splits first end (Passing step at) (Failing step at) r ⌝ }
+    ensures { λ r. ⌜ Splits first end (FormHolds step at) (FormFails step at) r ⌝ }
 {
     let start = integers::from_index(end);
     let mut k = end;

@@ -7,12 +7,12 @@ use Prim.Native.Nat.{ℕ}
 use lib.IntN.{ℤ}
 use lib.ListN.{length}
 use Rattle.frame.specs.Questions.{reading}
-use Rattle.fill.specs.Steel.{filling}
-use Rattle.route.specs.Route.{routeAnswer}
-use Rattle.route.specs.Demand.{DemandOf}
-use Rattle.route.proofs.Demand.{demand-of}
-use Rattle.stall.specs.Pack.{packedFilling, unpackedFilling, packedRoute, unpackedRoute, roomed, packedReading, unpackedReading}
-use Rattle.stall.specs.Numbers.{readNumbers, written}
+use Rattle.fill.specs.Fill.{filling}
+use Rattle.demand.specs.Route.{routeAnswer}
+use Rattle.demand.specs.Demand.{DemandOf}
+use Rattle.demand.proofs.Demand.{demand-of}
+use Rattle.stall.specs.Calls.{packedFilling, unpackedFilling, packedRoute, unpackedRoute, roomed, packedReading, unpackedReading}
+use Rattle.numbers.specs.Numbers.{readNumbers, written}
 use Rattle.stall.proofs.Unpack.{filling-back, route-back, reading-back}
 use Rattle.stall.proofs.Fitting.{filling-fits, route-fits, reading-fits}
 

@@ -12,22 +12,26 @@ use borrow.Author.Tests.{leb-true}
 use lib.Dec.{leb, eqb, lit<}
 use lib.IntN.{ℤ}
 use lib.ListN.{length}
-use Rattle.frame.specs.declared.Header.{Header}
-use Rattle.frame.specs.Fields.{headerOf}
-use Rattle.frame.specs.Layout.{version1}
-use Rattle.frame.specs.Limit.{Answer, gives, refused}
-use Rattle.frame.specs.Questions.{Question, Passing, asked, answered, ofEach, fileQuestions, headerQuestions, kindQuestion, reading}
-use Rattle.frame.proofs.Asking.{stopped, through, andThen, first-append}
-use Rattle.frame.proofs.Bounds.{version1-usable, header-bounded}
-use Rattle.overlap.specs.Grid.{Grid}
-use Rattle.overlap.specs.Geometry.{Point}
-use Rattle.grid.specs.Map.{isFilled}
-use Rattle.grid.proofs.Counts.{count-most}
-use Rattle.grid.proofs.Maps.{length-tabulate}
-use Rattle.fill.specs.Steel.{gridAt, cellCount, steel, filledBy, mapQuestion, fillQuestions, filling}
-use Rattle.route.specs.Route.{pointCount, pointFrom, pointsOf, cellsOf, Finding, free, blocked, tested, countFits, pointQuestion, pointQuestions, routeAnswer}
-use Rattle.route.proofs.Demand.{blocked-in}
-use Rattle.stall.proofs.Unpack.{Fits, FitsCount, FitsFinding, FitsAlways}
+use Rattle.layout.specs.declared.Header.{Header}
+use Rattle.layout.specs.Layout.{version1}
+use Rattle.frame.specs.File.{headerOf}
+use Rattle.refusal.specs.Limit.{Answer, gives, refused}
+use Rattle.refusal.specs.Questions.{Question, answered, ofEach}
+use Rattle.refusal.specs.Inner.{Passing, asked}
+use Rattle.frame.specs.Questions.{fileQuestions, headerQuestions, kindQuestion, reading}
+use Rattle.refusal.proofs.Asking.{stopped, through, andThen, first-append}
+use Rattle.layout.proofs.Bounds.{version1-usable, header-bounded}
+use Rattle.grid.specs.Grid.{cellCount}
+use Rattle.grid.specs.declared.Grid.{Grid}
+use Rattle.geometry.specs.declared.Point.{Point}
+use Rattle.map.specs.Map.{isFilled}
+use Rattle.map.proofs.Counts.{count-most}
+use Rattle.fill.specs.Fill.{gridOf, filledIn, mapQuestion, fillQuestions, filling}
+use Rattle.demand.specs.Route.{pointCount, pointsOf, Finding, free, blocked, tested, countFits, pointQuestion, pointQuestions, routeAnswer}
+use Rattle.demand.proofs.Points.{points-length}
+use Rattle.demand.proofs.Demand.{blocked-in}
+use Rattle.stall.proofs.Unpack.{FitsCount, FitsFinding, FitsAlways}
+use Rattle.pack.proofs.Unpack.{Fits}
 
 -- ---- questions
 abbrev FitsQuestion : Question → Type 0
@@ -63,34 +67,34 @@ module _ {A : Type 0} (P : A → Type 0) where
 -- ---- questions 1 to 8
 module _ (s : List ℕ) where
   abbrev h : Header
-  h = headerOf version1 s
+  h = headerOf s
 
   -- a question with a number up to 10 and the place 0
   few : {n : ℕ} → n ≤ 10 → (n < 2 ^ 8) × (0 < 2 ^ 32)
   few l = (omega arith, lit< tt)
 
-  file-fits : FitAll (fileQuestions version1 h s)
+  file-fits : FitAll (fileQuestions s)
   file-fits =
       fit-append (headerQuestions version1 h s) (ofEach (kindQuestion version1 s) (h .count))
       (few (omega arith), (few (omega arith), (few (omega arith), (few (omega arith), (few (omega arith), (few (omega arith), tt))))))
       (fit-each (kindQuestion version1 s) (h .count) (λ i l. (lit< tt, omega (arith, header-bounded version1 version1-usable s .count))))
 
-  fill-fits : (len : ℕ) → FitAll (fillQuestions s h len)
-  fill-fits len = fit-append (fileQuestions version1 h s) (mapQuestion h len ∷ []) file-fits (few (omega arith), tt)
+  fill-fits : (len : ℕ) → FitAll (fillQuestions s len)
+  fill-fits len = fit-append (fileQuestions s) (mapQuestion (gridOf s) len ∷ []) file-fits (few (omega arith), tt)
 
-  cells-most : cellCount h ≤ 64 * 64 * 64
-  cells-most = let b = header-bounded version1 version1-usable s in mul-le-mul (mul-le-mul (b .x .cells) (b .y .cells)) (b .z .cells)
+  cells-most : cellCount (gridOf s) ≤ 64 * 64 * 64
+  cells-most = let g = header-bounded version1 version1-usable s .grid in mul-le-mul (mul-le-mul (g .x .most) (g .y .most)) (g .z .most)
 
   -- ---- the calls
   pub reading-fits : (i : ℕ) → Fits FitsAlways (reading s i)
   unfolding reading
-  reading-fits i = answered-fits FitsAlways _ (fileQuestions version1 h s) file-fits tt
+  reading-fits i = answered-fits FitsAlways _ (fileQuestions s) file-fits tt
 
   pub filling-fits : (m : List ℕ) → Fits FitsCount (filling s m)
   unfolding filling
-  filling-fits m = answered-fits FitsCount _ (fillQuestions s h (length m)) (fill-fits (length m)) (omega (arith, cells-most, count-most (filledBy (gridAt h) (steel s h)) (cellCount h)))
+  filling-fits m = answered-fits FitsCount _ (fillQuestions s (length m)) (fill-fits (length m)) (omega (arith, cells-most, count-most (filledIn s) (cellCount (gridOf s))))
 
-finding-fits : (filled : ℕ → Bool) (g : Grid) (ps : List Point) → length ps ≤ 64 → cellsOf g ≤ 64 * 64 * 64 → FitsFinding (tested filled g ps)
+finding-fits : (filled : ℕ → Bool) (g : Grid) (ps : List Point) → length ps ≤ 64 → cellCount g ≤ 64 * 64 * 64 → FitsFinding (tested filled g ps)
 finding-fits filled g ps few-points few-cells = go (tested filled g ps) refl
   where
     go : (f : Finding) → tested filled g ps ≡ f → FitsFinding f
@@ -99,27 +103,23 @@ finding-fits filled g ps few-points few-cells = go (tested filled g ps) refl
 
 module _ (s m : List ℕ) (ns : List ℤ) where
   finding : Finding
-  finding = tested (isFilled m) (gridAt (headerOf version1 s)) (pointsOf ns)
+  finding = tested (isFilled m) (gridOf s) (pointsOf ns)
 
-  points-length : length (pointsOf ns) ≡ pointCount ns
-  unfolding pointsOf
-  points-length = length-tabulate (pointFrom ns) (pointCount ns)
-
-  points-fit : (b : Bool) → countFits ns ≡ b → Fits FitsFinding (answered (pointQuestions (gridAt (headerOf version1 s)) ns) finding)
+  points-fit : (b : Bool) → countFits ns ≡ b → Fits FitsFinding (answered (pointQuestions (gridOf s) ns) finding)
   unfolding finding
   points-fit false e = subst (Fits FitsFinding) (sym (stopped _ _ _ e)) (lit< tt, lit< tt)
   points-fit true e =
       let count = and-eq-true-iff (leb 2 (pointCount ns)) (leb (pointCount ns) 64 && eqb (length ns % 3) 0) .0 e in
       let most = leb-true (pointCount ns) 64 (and-eq-true-iff (leb (pointCount ns) 64) (eqb (length ns % 3) 0) .0 (count .1) .0) in
-      let points : length (pointsOf ns) ≤ 64 = omega (arith, most, points-length) in
+      let points : length (pointsOf ns) ≤ 64 = omega (arith, most, points-length ns) in
       subst (Fits FitsFinding) (sym (through _ _ _ e))
-      (answered-fits FitsFinding _ (ofEach (pointQuestion (gridAt (headerOf version1 s)) (pointsOf ns)) (length (pointsOf ns)))
+      (answered-fits FitsFinding _ (ofEach (pointQuestion (gridOf s) (pointsOf ns)) (length (pointsOf ns)))
       (fit-each _ _ (λ i l. (lit< tt, omega (arith, l, points))))
-      (finding-fits (isFilled m) (gridAt (headerOf version1 s)) (pointsOf ns) points (cells-most s)))
+      (finding-fits (isFilled m) (gridOf s) (pointsOf ns) points (cells-most s)))
 
   pub route-fits : Fits FitsFinding (routeAnswer s m ns)
   unfolding routeAnswer finding
   route-fits =
-      let q = fillQuestions s (headerOf version1 s) (length m) in
-      subst (Fits FitsFinding) (sym (first-append finding q (pointQuestions (gridAt (headerOf version1 s)) ns)))
+      let q = fillQuestions s (length m) in
+      subst (Fits FitsFinding) (sym (first-append finding q (pointQuestions (gridOf s) ns)))
       (then-fits FitsFinding (asked q) _ (answered-fits FitsAlways tt q (fill-fits s (length m)) tt) (points-fit (countFits ns) refl))

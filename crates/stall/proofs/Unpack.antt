@@ -1,51 +1,28 @@
--- What was packed comes back.
---     tag-back, number-back, leg-back, low-back   the parts of an answer
---     Fits                                        the numbers of an answer fit their bits
---     filling-back, route-back, reading-back      whole answers
+-- The answers that were packed come back.
+--     filling-back, route-back, reading-back
 -- Assumes nothing.
 use mathlib.Core.Bool.{Bool, true, false, cond}
 use mathlib.Core.List.{List, _++_}
 use mathlib.Core.Path.{_≡_, refl, ap, ap₂}
-use Prim.Native.Nat.{ℕ, _%_, _^_, _<_}
-use native.Mathlib.Omega.{arith}
-use lib.Dec.{leb, lit<}
+use Prim.Native.Nat.{ℕ, _^_, _<_}
+use lib.Dec.{leb}
 use lib.IntN.{ℤ}
 use lib.ListN.{length, drop}
-use Rattle.frame.specs.Limit.{Answer, gives, refused}
-use Rattle.frame.specs.Questions.{Contents, withRecord, noRecord}
-use Rattle.route.specs.Route.{Finding, free, blocked}
-use Rattle.stall.specs.Pack.{packed, tagOf, numberOf, legOf, packedFilling, unpackedFilling, packedRoute, unpackedRoute, wrote, short, roomed, packedReading, unpackedReading}
-use Rattle.stall.specs.Numbers.{contentsNumbers, readNumbers, numbersIn, written, contentsFrom}
+use Rattle.refusal.specs.Limit.{Answer, gives, refused}
+use Rattle.frame.specs.Questions.{Contents}
+use Rattle.demand.specs.Route.{Finding, free, blocked}
+use Rattle.pack.proofs.Unpack.{tag-back, leg-back, low-back, Fits, refusal-back}
+use Rattle.stall.specs.Calls.{packedFilling, unpackedFilling, packedRoute, unpackedRoute, wrote, short, roomed, packedReading, unpackedReading}
+use Rattle.numbers.specs.Numbers.{contentsNumbers, readNumbers, numbersIn, written}
+use Rattle.numbers.proofs.Back.{contents-back, numbers-count, numbers-few}
 
--- ---- the parts
-module _ (tag number leg low : ℕ) where
-  pub tag-back : tagOf (packed tag number leg low) ≡ tag
-  tag-back = omega arith
-
-  pub number-back : number < 2 ^ 8 → numberOf (packed tag number leg low) ≡ number
-  number-back h = omega arith
-
-  pub leg-back : leg < 2 ^ 16 → legOf (packed tag number leg low) ≡ leg
-  leg-back h = omega arith
-
-  pub low-back : low < 2 ^ 32 → packed tag number leg low % 2 ^ 32 ≡ low
-  low-back h = omega arith
-
--- ---- whole answers
--- The numbers of an answer fit their bits, where those of what is given do.
-abbrev pub Fits : {A : Type 0} → (A → Type 0) → Answer A → Type 0
-Fits P (gives a) = P a
-Fits P (refused n p) = (n < 2 ^ 8) × (p < 2 ^ 32)
-
+-- ---- what fits
 abbrev pub FitsCount : ℕ → Type 0
 FitsCount n = n < 2 ^ 32
 
 abbrev pub FitsFinding : Finding → Type 0
 FitsFinding free = Unit {0}
 FitsFinding (blocked m n) = (m < 2 ^ 16) × (n < 2 ^ 32)
-
-refusal-back : {A : Type 0} (n p : ℕ) → (n < 2 ^ 8) × (p < 2 ^ 32) → _≡_ {A = Answer A} (refused (numberOf (packed 1 n 0 p)) (packed 1 n 0 p % 2 ^ 32)) (refused n p)
-refusal-back n p h = ap₂ refused (number-back 1 n 0 p (h .0)) (low-back 1 n 0 p (h .1))
 
 pub filling-back : (a : Answer ℕ) → Fits FitsCount a → unpackedFilling (packedFilling a) ≡ a
 unfolding unpackedFilling
@@ -57,19 +34,6 @@ unfolding unpackedRoute
 route-back (gives free) h = refl
 route-back (gives (blocked m n)) h = rw (tag-back 3 0 m n) (ap₂ (λ (i k : ℕ). gives (blocked i k)) (leg-back 3 0 m n (h .0)) (low-back 3 0 m n (h .1)))
 route-back (refused n p) h = rw (tag-back 1 n 0 p) (refusal-back n p h)
-
--- The numbers at the start of a list are the reading's, whatever stands behind them.
-contents-back : (c : Contents) (rest : List ℤ) → contentsFrom (numbersIn c) (contentsNumbers c ++ rest) ≡ c
-contents-back (withRecord h t) rest = refl
-contents-back (noRecord h) rest = refl
-
-numbers-count : (c : Contents) → length (contentsNumbers c) ≡ numbersIn c
-numbers-count (withRecord h t) = refl
-numbers-count (noRecord h) = refl
-
-numbers-few : (c : Contents) → numbersIn c < 2 ^ 32
-numbers-few (withRecord h t) = lit< tt
-numbers-few (noRecord h) = lit< tt
 
 abbrev pub FitsAlways : {A : Type 0} → A → Type 0
 FitsAlways a = Unit {0}

@@ -4,33 +4,37 @@
 --     adds-row        where the triangle stays within one cell on two axes, it overlaps every cell of its box
 --     adds-nothing    a box with no cell
 -- Assumes nothing.
-use mathlib.Core.Bool.{Bool, true, false, _&&_, _||_, and-eq-true-iff, and-assoc, and-false, or-false, false≢true}
+use mathlib.Core.Bool.{Bool, true, false, _&&_, _||_, and-eq-true-iff, or-false}
 use mathlib.Core.List.{List, [], _∷_}
-use mathlib.Core.Path.{_≡_, refl, sym, ap, ap₂, _∙_, subst}
+use mathlib.Core.Path.{_≡_, refl, sym, ap, _∙_, subst}
 use Prim.Native.Nat.{ℕ, _+_, _*_, _<_, _≤_}
 use native.Mathlib.Decide.{decLt}
 use native.Mathlib.Omega.{arith}
 use borrow.Author.Tests.{lt-ltb, le-ltb, eqb-true, eq-eqb}
 use lib.Dec.{T, eqb, ltb, lit<}
-use lib.IntN.{ℤ, pos, _+ℤ_, _*ℤ_}
-use lib.Signed.{_≤ℤ_, _<ℤ_, leZ}
+use lib.IntN.{ℤ, pos}
+use lib.Signed.{_≤ℤ_, _<ℤ_}
 use Rattle.integers.specs.Within.{Withins}
 use Rattle.integers.proofs.Omega.{zarith, le-true}
 use Rattle.integers.proofs.Bounds.{within-high}
 use Rattle.integers.proofs.Expr.{var, _⊕_, _⊗_}
 use Rattle.integers.proofs.Machine.{bound}
-use Rattle.overlap.specs.Bounds.{indexMax}
-use Rattle.overlap.specs.Geometry.{Point, Triangle, cube, xOf, yOf, zOf}
-use Rattle.overlap.specs.Grid.{Lattice, boxCorner}
-use Rattle.overlap.specs.Rule.{normal, overlapsBox, boxHolds, leastHolds, greatestHolds, least3, greatest3}
-use Rattle.overlap.specs.Vectors.{measuredFrom}
-use Rattle.ranges.specs.declared.BoxRange.{BoxRange}
-use Rattle.ranges.specs.declared.CellRange.{CellRange}
-use Rattle.ranges.specs.Range.{inRange, PicksBox}
+use Rattle.geometry.specs.Bounds.{indexMax}
+use Rattle.geometry.specs.declared.Triangle.{Triangle}
+use Rattle.geometry.specs.Geometry.{cube, xOf, yOf, zOf}
+use Rattle.geometry.specs.Inner.{measuredFrom}
+use Rattle.grid.specs.declared.Lattice.{Lattice}
+use Rattle.grid.specs.declared.Grid.{Grid}
+use Rattle.grid.specs.Grid.{cellCount, boxCorner}
+use Rattle.overlap.specs.Rule.{overlapsBox, leastHolds, greatestHolds}
+use Rattle.grid.specs.declared.BoxRange.{BoxRange}
+use Rattle.grid.specs.declared.CellRange.{CellRange}
+use Rattle.grid.specs.Range.{inRange}
+use Rattle.ranges.specs.Range.{PicksBox}
 use Rattle.forms.specs.declared.Edge.{Edge}
-use Rattle.forms.specs.Form.{edgeAt, planeAt, insideMax, edgeSlopeMax, edgeMax, BoundedEdge, BoundedForms}
-use Rattle.forms.specs.Triangle.{edgeBetween, planeForm, FormsFor}
-use Rattle.runs.proofs.Narrow.{same, in-range, range-in}
+use Rattle.forms.specs.Form.{edgeAt, planeAt, insideMax, edgeSlopeMax, edgeMax, BoundedEdge}
+use Rattle.forms.specs.Triangle.{FormsFor}
+use Rattle.runs.proofs.Narrow.{same, in-range}
 use Rattle.reach.proofs.Row.{Stays, row-holds}
 use Rattle.column_rule.specs.Column.{formsHold, uvOf, cellAlong, columnTest}
 use Rattle.column_rule.proofs.Law.{rule-parts, column-law}
@@ -39,21 +43,27 @@ use Rattle.columns.specs.Draw.{uOf, vOf, wOf, cellsOf, drawn, Draws, oneColumn,
 use Rattle.columns.specs.Column.{valueAt, columnPasses, cellPasses}
 use Rattle.columns.proofs.Drawing.{strides}
 use Rattle.columns.proofs.Lattices.{along-z, x-is, z-is}
-use Rattle.grid.specs.Cells.{xOfCell, yOfCell, zOfCell}
-use Rattle.grid.specs.Map.{isFilled}
-use Rattle.triangles.specs.Add.{overlapsCell, Adds}
+use Rattle.grid.specs.Cells.{yOfCell}
+use Rattle.map.specs.Map.{isFilled}
+use Rattle.overlap.specs.Cells.{overlapsCell}
+use Rattle.triangles.specs.Add.{Adds}
 use Rattle.triangles.specs.View.{View}
 use Rattle.triangles.proofs.Views.{places}
 
 -- ---- a grid's cells as they are numbered
-module _ (nx ny nz : ℕ) (px : 0 < nx) (py : 0 < ny) (mx : nx ≤ 64) (my : ny ≤ 64) (mz : nz ≤ 64) (t : Triangle) (l : Lattice) {r : BoxRange} (picks : PicksBox t l nx ny nz r) where
-  pub view-z : View (strides 1 nx nx ny (nx * ny) nz) t l r (nx * ny * nz) (overlapsCell nx ny l t)
-  view-z = record {
-    numbers = along-z nx ny nz px py mx my mz;
-    picks = picks;
-    cells-are = refl;
-    rule = λ n h q. overlapsBox t (boxCorner l (x-is nx ny nz px py mx my mz n q) (yOfCell nx ny n) (z-is nx ny nz px py mx my mz n h q)) (cube (l .extent));
-  }
+module _ (g : Grid) (px : 0 < g .nx) (py : 0 < g .ny) (mx : g .nx ≤ 64) (my : g .ny ≤ 64) (mz : g .nz ≤ 64) (t : Triangle) (l : Lattice) {r : BoxRange}
+    (picks : PicksBox t l (g .nx) (g .ny) (g .nz) r) where
+  pub view-z : View (strides 1 (g .nx) (g .nx) (g .ny) (g .nx * g .ny) (g .nz)) t l r (cellCount g) (overlapsCell g l t)
+  view-z =
+      let nx = g .nx in
+      let ny = g .ny in
+      let nz = g .nz in
+      record {
+        numbers = along-z nx ny nz px py mx my mz;
+        picks = picks;
+        cells-are = refl;
+        rule = λ n h q. overlapsBox t (boxCorner l (x-is nx ny nz px py mx my mz n q) (yOfCell nx ny n) (z-is nx ny nz px py mx my mz n h q)) (cube (l .extent));
+      }
 
 -- ---- the cells that are drawn are those that are wanted
 module _ {g : Strides} {t : Triangle} {l : Lattice} {r : BoxRange} {cells : ℕ} {wanted : ℕ → Bool} (v : View g t l r cells wanted) where

@@ -4,20 +4,19 @@
 -- Assumes nothing.
 use mathlib.Core.Bool.{Bool}
 use mathlib.Core.Path.{_≡_, sym, ap, _∙_, subst}
-use Prim.Native.Nat.{ℕ, _+_, _*_, _/_, _%_, _<_}
+use Prim.Native.Nat.{ℕ, _*_, _/_, _<_}
 use native.Mathlib.Decide.{decLt}
 use native.Mathlib.Nat.{mul-assoc, mul-comm, mul-zero, zero-mul, mod-lt}
 use native.Mathlib.Omega.{arith}
-use Rattle.overlap.specs.Geometry.{Triangle, cube}
-use Rattle.overlap.specs.Grid.{Lattice, boxCorner}
-use Rattle.overlap.specs.Rule.{overlapsBox}
-use Rattle.ranges.specs.declared.BoxRange.{BoxRange}
-use Rattle.ranges.specs.Range.{PicksBox}
+use Rattle.geometry.specs.declared.Triangle.{Triangle}
+use Rattle.grid.specs.declared.Lattice.{Lattice}
+use Rattle.grid.specs.Grid.{boxCorner}
+use Rattle.grid.specs.declared.BoxRange.{BoxRange}
 use Rattle.column_rule.specs.Turn.{turnTriangle, turnLattice, turnBox}
 use Rattle.column_rule.proofs.Turns.{turn-rule, turn-picks}
 use Rattle.columns.specs.declared.Strides.{Strides}
 use Rattle.columns.specs.Draw.{numberOf, uOf, vOf, wOf, cellsOf, Numbers}
-use Rattle.placed.specs.Lattice.{turnStrides}
+use Rattle.placed.specs.Numbering.{turnStrides}
 use Rattle.triangles.specs.View.{View}
 
 -- ---- the numbers

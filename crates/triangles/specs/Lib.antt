@@ -1,2 +1,3 @@
+-- inner
 pub mod Add
 pub mod View

@@ -14,7 +14,7 @@ use Rattle.integers.specs.Within.{Withins}
 use Rattle.integers.proofs.Casts.{signed-is}
 use Rattle.integers.proofs.Expr.{raw, num, _⊖_}
 use Rattle.integers.proofs.Machine.{asks, run, within-toZ}
-use Rattle.overlap.specs.Bounds.{indexMax}
+use Rattle.geometry.specs.Bounds.{indexMax}
 use Rattle.blocks.specs.Block.{farEnd}
 use Rattle.blocks.proofs.Far.{before}
 use Rattle.blocks.proofs.far_end.Statement.{statement}

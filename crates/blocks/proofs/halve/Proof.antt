@@ -8,17 +8,18 @@ use Prim.Native.Nat.{ℕ, _+_, _-_, _<_, _≤_}
 use native.Mathlib.Omega.{arith}
 use lib.IntN.{ℤ}
 use lib.ListN.{length, getD, set, length-set}
-use Rattle.ranges.specs.declared.CellRange.{CellRange}
+use Rattle.grid.specs.declared.CellRange.{CellRange}
 use Rattle.pending.specs.Pending.{stack, Progress, Each, load, putIf}
 use Rattle.pending.proofs.Laws.{bit-most, stack-length, stack-top, stack-halves, each-halves, begun, finished, halved, done, lighter, halves-lighter, six}
 use Rattle.columns.specs.declared.Strides.{Strides}
 use Rattle.columns.specs.Draw.{drawn, rectangle}
 use Rattle.columns.specs.Column.{cellPasses, ColumnsReady, RowsIn, DrawsColumns}
 use Rattle.columns.proofs.Drawing.{drawn-or}
+use Rattle.columns.proofs.Cells.{still-ready}
 use Rattle.blocks.specs.declared.Block.{Block}
 use Rattle.blocks.specs.declared.Halves.{Halves}
-use Rattle.blocks.specs.Block.{uOf, vOf, columnsOf, widthOf, depthOf, BlockIn, Part, keptBy}
-use Rattle.blocks.proofs.Cuts.{rows}
+use Rattle.blocks.specs.Block.{uRange, vRange, columnsOf, widthOf, depthOf, BlockIn, SmallerPart, keptBy}
+use Rattle.blocks.proofs.Cuts.{rows, wider}
 use Rattle.blocks.proofs.Far.{ruled-out}
 use Rattle.blocks.proofs.halve.Statement.{statement}
 use Rattle.blocks.proofs.halve.Tie as tie
@@ -53,9 +54,7 @@ module _ (s : tie.Start Inv-loop μ-loop) where
 
   -- a block of the grid has numbers up to 64
   small : {b : Block} → BlockIn (s .args .g .nu) (s .args .g .nv) b → BlockIn 64 64 b
-  small h =
-      let n = s .pre .0 .numbers in
-      record { u = record { some = h .u .some; most = omega (arith, h .u .most, n .nu-most) }; v = record { some = h .v .some; most = omega (arith, h .v .most, n .nv-most) } }
+  small = let n = s .pre .0 .numbers in wider (n .nu-most) (n .nv-most)
 
 loop-holds : tie.Need-loop-holds Inv-loop μ-loop
 unfolding stack
@@ -63,7 +62,7 @@ loop-holds c =
     let s = c .before in
     let b = s .args .whole in
     let p = s .pre .0 in
-    (refl, ((s .pre .1, omega (arith, six (widthOf (uOf b)), six (widthOf (vOf b)))), tt), begun (wants s) b (s .args .map .now), p .low, p .high)
+    (refl, ((s .pre .1, omega (arith, six (widthOf (uRange b)), six (widthOf (vRange b)))), tt), begun (wants s) b (s .args .map .now), p .low, p .high)
 
 -- ---- a turn: the last block is taken
 module _ (c : tie.In-loop Inv-loop μ-loop) where
@@ -101,10 +100,7 @@ module _ (c : tie.In-loop Inv-loop μ-loop) where
   less bs h = subst (λ (all : List Block). load depthOf bs < load depthOf all) (sym taken) h
 
   ready : let a = start .args in ColumnsReady (a .forms .now) (a .g) (length (c .before .loop .map)) (a .w) (c .before .loop .near)
-  ready =
-      let p = start .pre .0 in
-      let i = c .before .loop .inv in
-      record { forms = p .forms; numbers = p .numbers; room = rw (progress .len) (p .room); ordered = p .ordered; end = p .end; low = i .3; high = i .4 }
+  ready = let i = c .before .loop .inv in still-ready (start .pre .0) (progress .len) (i .3) (i .4)
 
 -- ---- a small block's columns are filled
 scan-requires : tie.Need-scan-requires Inv-loop μ-loop
@@ -156,13 +152,10 @@ module _ (c : tie.After-cut Inv-loop μ-loop) where
   at-most : place turn ≤ 11
   at-most = omega (arith, shallow turn, c .cut .ensures .low-part .less)
 
-  inside : {b : Block} → Part (top turn) b → BlockIn (start turn .args .g .nu) (start turn .args .g .nv) b
-  inside p =
-      let h = waiting turn .0 .0 in
-      let i = p .inside in
-      record { u = record { some = i .u .some; most = omega (arith, i .u .most, h .u .most) }; v = record { some = i .v .some; most = omega (arith, i .v .most, h .v .most) } }
+  inside : {b : Block} → SmallerPart (top turn) b → BlockIn (start turn .args .g .nu) (start turn .args .g .nv) b
+  inside p = let h = waiting turn .0 .0 in wider (h .u .most) (h .v .most) (p .inside)
 
-  entered : {b : Block} → Part (top turn) b → (p : ℕ) → p ≤ length (rest turn) + 1 → Waits (start turn .args .g) p b
+  entered : {b : Block} → SmallerPart (top turn) b → (p : ℕ) → p ≤ length (rest turn) + 1 → Waits (start turn .args .g) p b
   entered part p h = (inside part, omega (arith, part .less, waiting turn .0 .1))
 
   waiting-halves : All (start turn) halves

@@ -4,7 +4,7 @@ use Prim.Native.Nat.{ℕ}
 use native.Mathlib.Omega.{arith}
 use lib.IntN.{ℤ, pos}
 use lib.Signed.{leZ}
-use Rattle.grid.specs.Map.{bit}
+use Rattle.map.specs.Map.{bit}
 use Rattle.columns.proofs.Cells.{negative, positive, square-0, square-1, square-2}
 use Rattle.blocks.specs.Block.{keptBy, farValue}
 use Rattle.blocks.proofs.kept.Statement.{statement}

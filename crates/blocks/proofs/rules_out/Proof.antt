@@ -8,7 +8,7 @@ use lib.Signed.{ltZ}
 use Rattle.integers.specs.Within.{Withins}
 use Rattle.integers.proofs.Expr.{Expr, var, _⊕_, _⊗_}
 use Rattle.integers.proofs.Machine.{asks, run}
-use Rattle.overlap.specs.Bounds.{indexMax}
+use Rattle.geometry.specs.Bounds.{indexMax}
 use Rattle.forms.specs.declared.EdgeForm.{EdgeForm}
 use Rattle.forms.specs.Form.{edgeAt, edgeSlopeMax, edgeMax}
 use Rattle.blocks.specs.Block.{farEnd}

@@ -9,7 +9,7 @@ use mir.Syntax.{w64}
 use mir.Val.{toZ, ofZ}
 use mir.Facts.{toZ-ofZ}
 use Rattle.integers.proofs.Machine.{back}
-use Rattle.ranges.specs.declared.CellRange.{CellRange}
+use Rattle.grid.specs.declared.CellRange.{CellRange}
 use Rattle.forms.specs.Form.{edgeAt, planeAt}
 use Rattle.runs.specs.Run.{Narrows}
 use Rattle.runs.proofs.Narrow.{by-both}

@@ -15,8 +15,8 @@ use Rattle.integers.specs.Within.{Withins}
 use Rattle.integers.proofs.Bounds.{within-weaken}
 use Rattle.integers.proofs.Expr.{Expr, var, _⊕_, _⊗_, nth}
 use Rattle.integers.proofs.Machine.{Asks, asks, bound, learnt, asked, back}
-use Rattle.overlap.specs.Bounds.{indexMax}
-use Rattle.ranges.specs.declared.CellRange.{CellRange}
+use Rattle.geometry.specs.Bounds.{indexMax}
+use Rattle.grid.specs.declared.CellRange.{CellRange}
 use Rattle.forms.specs.declared.Edge.{Edge}
 use Rattle.forms.specs.declared.EdgeForm.{EdgeForm}
 use Rattle.forms.specs.Form.{edgeAt, edgeSlopeMax, edgeMax}

@@ -9,7 +9,7 @@ use Rattle.integers.specs.Within.{Within, Withins}
 use Rattle.integers.proofs.Bounds.{within-weaken}
 use Rattle.integers.proofs.Expr.{Expr, var, _⊕_, _⊗_}
 use Rattle.integers.proofs.Machine.{asks, run, bound}
-use Rattle.overlap.specs.Bounds.{indexMax}
+use Rattle.geometry.specs.Bounds.{indexMax}
 use Rattle.forms.specs.Form.{edgeSlopeMax, edgeMax}
 use Rattle.columns.specs.Column.{valueMax}
 use Rattle.columns.proofs.edge_value.Statement.{statement}

@@ -4,8 +4,8 @@ use mathlib.Core.Path.{_≡_, refl, sym, ap, _∙_, subst}
 use Prim.Native.Nat.{ℕ, _+_, _*_, _-_, _≤_, _<_}
 use native.Mathlib.Omega.{arith}
 use lib.ListN.{length}
-use Rattle.grid.specs.Map.{withFilled}
-use Rattle.grid.proofs.Filled.{length-with}
+use Rattle.map.specs.Inner.{withFilled}
+use Rattle.map.proofs.Filled.{length-with}
 use Rattle.columns.specs.Draw.{numberOf, Draws, oneColumn, inRun, range, RunReady}
 use Rattle.columns.proofs.Drawing.{strides, empty-run, draws-cell, small}
 use Rattle.columns.proofs.fill_run.Statement.{statement}

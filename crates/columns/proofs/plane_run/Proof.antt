@@ -9,10 +9,10 @@ use Rattle.integers.specs.Within.{Withins}
 use Rattle.integers.proofs.Bounds.{within-weaken}
 use Rattle.integers.proofs.Expr.{Expr, var, _⊕_, _⊗_, nth}
 use Rattle.integers.proofs.Machine.{asks, bound, learnt, asked}
-use Rattle.overlap.specs.Bounds.{indexMax}
+use Rattle.geometry.specs.Bounds.{indexMax}
 use Rattle.forms.specs.declared.PlaneForm.{PlaneForm}
-use Rattle.forms.specs.Form.{planeSlopeMax, planeMax, reachMax}
-use Rattle.runs.specs.Run.{Narrows, inSlab, SlabReady}
+use Rattle.forms.specs.Form.{planeMax}
+use Rattle.runs.specs.Run.{slopeMax, reachMax, Narrows, inSlab, SlabReady}
 use Rattle.columns.proofs.plane_run.Statement.{statement}
 use Rattle.columns.proofs.plane_run.Tie as tie
 
@@ -20,7 +20,7 @@ abbrev ρ : tie.After-plane → List ℤ
 ρ c = let f = c .plane .result in let a = c .before .args in f .u ∷ f .v ∷ f .w ∷ f .at ∷ f .reach ∷ a .u ∷ a .v ∷ []
 
 abbrev bs : List ℕ
-bs = planeSlopeMax ∷ planeSlopeMax ∷ planeSlopeMax ∷ planeMax ∷ reachMax ∷ indexMax ∷ indexMax ∷ []
+bs = slopeMax ∷ slopeMax ∷ slopeMax ∷ planeMax ∷ reachMax ∷ indexMax ∷ indexMax ∷ []
 
 ins : (c : tie.After-plane) → Withins bs (ρ c)
 ins c =

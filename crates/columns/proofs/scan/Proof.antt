@@ -5,10 +5,10 @@ use mathlib.Core.Path.{_≡_, subst}
 use Prim.Native.Nat.{_-_, _≤_}
 use native.Mathlib.Omega.{arith}
 use lib.ListN.{length}
-use Rattle.ranges.specs.Range.{inRange}
+use Rattle.grid.specs.Range.{inRange}
 use Rattle.columns.specs.Draw.{rectangle, range}
 use Rattle.columns.specs.Column.{DrawsColumns, ColumnsReady}
-use Rattle.columns.proofs.Cells.{no-range, no-columns, more-columns, rectangle-more}
+use Rattle.columns.proofs.Cells.{no-range, still-ready, no-columns, more-columns, rectangle-more}
 use Rattle.columns.proofs.scan.Statement.{statement}
 use Rattle.columns.proofs.scan.Tie as tie
 
@@ -27,10 +27,7 @@ loop-holds c =
 
 -- what a callee asks, after the columns before
 ready : (l : tie.At-loop Inv-loop μ-loop) → let a = l .before .before .args in ColumnsReady (a .forms .now) (a .g) (length (l .loop .map)) (a .w) (l .loop .near)
-ready l =
-    let p = l .before .before .pre .0 in
-    let d = l .loop .inv .2 in
-    record { forms = p .forms; numbers = p .numbers; room = rw (d .draws .len) (p .room); ordered = p .ordered; end = p .end; low = d .low; high = d .high }
+ready l = let d = l .loop .inv .2 in still-ready (l .before .before .pre .0) (d .draws .len) (d .low) (d .high)
 
 loop-again : tie.Need-loop-again Inv-loop μ-loop
 loop-again c =

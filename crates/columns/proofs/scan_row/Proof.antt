@@ -13,14 +13,14 @@ use mir.Val.{toZ, ofZ, SFits}
 use Rattle.integers.specs.Within.{Within, Withins}
 use Rattle.integers.proofs.Expr.{raw, var, _⊕_}
 use Rattle.integers.proofs.Machine.{asks, run, back, cases}
-use Rattle.overlap.specs.Bounds.{indexMax}
-use Rattle.ranges.specs.Range.{inRange}
+use Rattle.geometry.specs.Bounds.{indexMax}
+use Rattle.grid.specs.Range.{inRange}
 use Rattle.forms.specs.Form.{edgeAt, edgeSlopeMax, BoundedForm}
 use Rattle.column_rule.specs.Column.{uvOf, squarePasses}
 use Rattle.columns.specs.Draw.{oneColumn, rowOf, range}
 use Rattle.columns.specs.Column.{valueAt, valueMax, columnPasses, runCells, cellPasses, ColumnsReady, DrawsColumns}
 use Rattle.columns.proofs.Drawing.{draws-same, draws-nothing, drawn-on}
-use Rattle.columns.proofs.Cells.{next-value, value-within, ruled-out, let-in, no-range, no-columns, more-columns, row-more}
+use Rattle.columns.proofs.Cells.{next-value, value-within, ruled-out, let-in, no-range, still-ready, no-columns, more-columns, row-more}
 use Rattle.columns.proofs.scan_row.Statement.{statement}
 use Rattle.columns.proofs.scan_row.Tie as tie
 
@@ -94,10 +94,7 @@ start l = begin (l .before .before .before .before)
 
 -- what a callee asks, after the columns before
 ready : (l : tie.At-loop Inv-loop μ-loop) → let a = start l .args in ColumnsReady (a .forms .now) (a .g) (length (l .loop .map)) (a .w) (l .loop .near)
-ready l =
-    let p = start l .pre .0 in
-    let d = l .loop .inv .2 in
-    record { forms = p .forms; numbers = p .numbers; room = rw (d .draws .len) (p .room); ordered = p .ordered; end = p .end; low = d .low; high = d .high }
+ready l = let d = l .loop .inv .2 in still-ready (start l .pre .0) (d .draws .len) (d .low) (d .high)
 
 square-is : (c : tie.After-square-passes Inv-loop μ-loop) {t : Bool} → c .square-passes .result ≡ t
     → let l = c .before .before in columnPasses (start l .args .forms .now) (l .loop .a) (start l .args .j) ≡ t

@@ -1,13 +1,13 @@
 -- `forms::edge_between` meets its contract: the edge is the difference of two corners, and each plane has its form. Assumes nothing.
 use mathlib.Core.List.{List, [], _∷_}
-use mathlib.Core.Path.{_≡_, _∙_, ap}
+use mathlib.Core.Path.{_≡_, _∙_}
 use Prim.Native.Nat.{ℕ}
 use lib.IntN.{ℤ}
 use mir.Syntax.{w64}
 use Rattle.integers.specs.Within.{Withins}
 use Rattle.integers.proofs.Expr.{Expr, var, _⊖_, nth}
 use Rattle.integers.proofs.Machine.{back, asks, bounded, learnt}
-use Rattle.overlap.specs.Bounds.{offsetMax, normalMax, stepMax, extentMax, each}
+use Rattle.geometry.specs.Bounds.{offsetMax, normalMax, stepMax, extentMax, each}
 use Rattle.forms.specs.declared.EdgeForm.{EdgeForm}
 use Rattle.forms.specs.Triangle.{edgeForm, insideFrom, edgeBounds, insideBounds}
 use Rattle.forms.proofs.edge_between.Statement.{statement}
@@ -61,9 +61,6 @@ From r l = r ≡ insideFrom (nth l 0) (nth l 1) (nth l 2) (nth l 3)
 -- the places, from the last to the first
 abbrev at0 : tie.After-struct-told7 → tie.Start
 at0 c = c .before .before .before .before .before .before .before .before .before .before
-
-abbrev at1 : tie.After-struct-told8 → tie.After-edge-form
-at1 c = c .before
 
 abbrev start : tie.After-inside-from → tie.Start
 start c = at0 (c .before .before .before .before .before .before .before)

@@ -10,7 +10,7 @@ use Rattle.integers.proofs.Expr.{Expr, var, neg, _⊕_, _⊖_, _⊗_, eval}
 use Rattle.integers.proofs.Machine.{Asks, asks, run, bounded}
 use Rattle.integers.proofs.Bounds.{within-neg}
 use Rattle.integers.proofs.MinMax.{within-max}
-use Rattle.overlap.specs.Bounds.{differenceMax, each}
+use Rattle.geometry.specs.Bounds.{differenceMax, each}
 use Rattle.overlap.specs.Rule.{turned}
 use Rattle.forms.specs.Triangle.{edgeForm, edgeBounds}
 use Rattle.forms.proofs.Sizes.{within-turned, within-zero}

@@ -5,9 +5,10 @@ use lib.IntN.{ℤ}
 use Rattle.integers.specs.Within.{Withins}
 use Rattle.integers.proofs.Expr.{Expr, var}
 use Rattle.integers.proofs.Machine.{runs}
+use Rattle.runs.specs.Run.{slopeMax, reachMax}
 use Rattle.forms.specs.declared.Edge.{Edge}
 use Rattle.forms.specs.declared.PlaneForm.{PlaneForm}
-use Rattle.forms.specs.Form.{edgeList, formList, planeSlopeMax, planeMax, reachMax, edgeSlopeMax, edgeMax, insideMax, BoundedEdge, BoundedPlane}
+use Rattle.forms.specs.Form.{edgeList, formList, planeMax, edgeSlopeMax, edgeMax, insideMax, BoundedEdge, BoundedPlane}
 use Rattle.forms.proofs.form_list.Statement.{statement}
 use Rattle.forms.proofs.form_list.Tie as tie
 
@@ -19,7 +20,7 @@ abbrev edge : List ℕ → List ℕ
 edge rest = form (form (form (insideMax ∷ rest)))
 
 abbrev plane : List ℕ
-plane = planeSlopeMax ∷ planeSlopeMax ∷ planeSlopeMax ∷ planeMax ∷ reachMax ∷ []
+plane = slopeMax ∷ slopeMax ∷ slopeMax ∷ planeMax ∷ reachMax ∷ []
 
 abbrev bs : List ℕ
 bs = edge (edge (edge plane))
@@ -38,7 +39,7 @@ from i (suc n) = var i ∷ from (suc i) n
 
 returns : tie.Need-returns
 returns c =
-    let s = c .before .before .before .before .before .before .before .before .before .before .before .before .before .before .before .before .before .before .before .before .before .before in
+    let s = c .before .before .before .before in
     let a = s .args in
     runs (formList (a .p) (a .e0) (a .e1) (a .e2)) (from 0 35) bs tt (ins (a .p) (a .e0) (a .e1) (a .e2) (s .pre))
 

@@ -1,7 +1,7 @@
 -- `forms::inside_from` meets its contract: the test says whether the normal is 0. Assumes nothing.
 use mathlib.Core.Bool.{Bool, cond}
 use mathlib.Core.List.{List, [], _∷_}
-use mathlib.Core.Path.{_≡_, _∙_, sym, ap, ap₂}
+use mathlib.Core.Path.{_≡_, _∙_, sym, ap}
 use Prim.Native.Nat.{ℕ, _^_}
 use lib.IntN.{ℤ, pos, natAbs, _+ℤ_, _*ℤ_}
 use lib.Signed.{leZ}
@@ -9,7 +9,7 @@ use mir.Syntax.{w64}
 use Rattle.integers.specs.Within.{Withins}
 use Rattle.integers.proofs.Expr.{Expr, var, _⊕_, _⊗_, eval}
 use Rattle.integers.proofs.Machine.{mach, back, asks, run, bounded}
-use Rattle.overlap.specs.Bounds.{differenceMax, extentMax}
+use Rattle.geometry.specs.Bounds.{differenceMax, extentMax}
 use Rattle.forms.specs.Form.{insideMax}
 use Rattle.forms.specs.Triangle.{insideBounds}
 use Rattle.forms.proofs.Sizes.{within-size}

@@ -8,8 +8,8 @@ use Rattle.integers.specs.Order.{maxℤ}
 use Rattle.integers.proofs.Expr.{Expr, var, _⊕_, _⊖_, _⊗_, eval}
 use Rattle.integers.proofs.Machine.{Asks, asks, run, bounded}
 use Rattle.integers.proofs.MinMax.{within-max}
-use Rattle.overlap.specs.Bounds.{normalMax, each}
-use Rattle.overlap.specs.Geometry.{point}
+use Rattle.geometry.specs.Bounds.{normalMax, each}
+use Rattle.geometry.specs.Geometry.{point}
 use Rattle.overlap.specs.Rule.{turned}
 use Rattle.forms.specs.Triangle.{planeForm, planeBounds}
 use Rattle.forms.proofs.Sizes.{within-turned, within-zero, within-size}

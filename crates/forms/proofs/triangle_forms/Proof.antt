@@ -9,12 +9,12 @@ use mir.Facts.{toZ-ofZ}
 use Rattle.integers.proofs.Bounds.{within-fits}
 use Rattle.integers.proofs.Expr.{var}
 use Rattle.integers.proofs.Machine.{bounded}
-use Rattle.overlap.specs.Bounds.{offsetMax, normalMax, PointWithin}
-use Rattle.overlap.specs.Geometry.{Point, point, Triangle}
+use Rattle.geometry.specs.Bounds.{offsetMax, normalMax, PointWithin}
+use Rattle.geometry.specs.declared.Point.{Point}
+use Rattle.geometry.specs.declared.Triangle.{Triangle}
+use Rattle.geometry.specs.Geometry.{point}
 use Rattle.overlap.specs.Rule.{normal}
-use Rattle.overlap.specs.Vectors.{pointOf, triangleOf}
 use Rattle.forms.specs.declared.Edge.{Edge}
-use Rattle.forms.specs.declared.PlaneForm.{PlaneForm}
 use Rattle.forms.specs.Form.{edgeAt, planeAt, BoundedEdge, BoundedPlane}
 use Rattle.forms.specs.Triangle.{edgeBetween, planeForm, planeBounds, EdgeReady}
 use Rattle.forms.proofs.Sizes.{normal-within, edge-bounded, plane-bounded}
@@ -26,10 +26,10 @@ m z = toZ w64 (ofZ w64 z)
 
 module _ (s : tie.Start) where
   abbrev t : Triangle
-  t = let a = s .args in triangleOf (a .v0) (a .v1) (a .v2)
+  t = s .args .t
 
   abbrev n : Point
-  n = pointOf (s .args .n)
+  n = s .args .n
 
   n-in : PointWithin normalMax n
   n-in = rw (s .pre .1) (normal-within (s .pre .0))
@@ -52,7 +52,7 @@ module _ (s : tie.Start) where
   edge-in h k e = subst BoundedEdge (sym e) (let r = ready h k in edge-bounded (r .step) (r .extent) r)
 
 abbrev start : tie.After-plane-form → tie.Start
-start c = c .before .before .before .before .before .before .before
+start c = c .before .before .before .before .before .before .before .before .before .before
 
 plane-is : (c : tie.After-plane-form) → let s = start c in c .plane-form .result ≡ planeForm (normal (t s)) (t s .v0) (s .args .step) (s .args .extent)
 plane-is c =
@@ -106,11 +106,11 @@ triangle-forms-spec =
     tie.close
     (tie.spec
     (λ c κs.
-    let s = c .before .before .before .before .before .before in
+    let s = c .before .before .before .before .before .before .before .before .before in
     let a = s .args in
     let k = n-in s in
     let v = s .pre .0 .v0 in
-    bounded (a .n .x ∷ a .n .y ∷ a .n .z ∷ a .v0 .x ∷ a .v0 .y ∷ a .v0 .z ∷ a .step ∷ a .extent ∷ []) (var 0 ∷ var 1 ∷ var 2 ∷ var 3 ∷ var 4 ∷ var 5 ∷ var 6 ∷ var 7 ∷ []) planeBounds planeBounds tt
+    bounded (a .n .x ∷ a .n .y ∷ a .n .z ∷ a .t .v0 .x ∷ a .t .v0 .y ∷ a .t .v0 .z ∷ a .step ∷ a .extent ∷ []) (var 0 ∷ var 1 ∷ var 2 ∷ var 3 ∷ var 4 ∷ var 5 ∷ var 6 ∷ var 7 ∷ []) planeBounds planeBounds tt
     (k .x, (k .y, (k .z, (v .x, (v .y, (v .z, (s .pre .2, (s .pre .4, tt)))))))))
     (λ c κs. let s = start c in ready s (s .pre .0 .v0) (s .pre .0 .v1))
     (λ c κs. let s = start (c .before) in ready s (s .pre .0 .v1) (s .pre .0 .v2))

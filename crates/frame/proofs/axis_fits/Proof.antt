@@ -26,7 +26,7 @@ abbrev bs : List ℕ
 bs = 2 ^ 24 ∷ 64 ∷ 2 ^ 25 ∷ []
 
 ins : (c : tie.Start) → Withins bs (ρ c)
-ins c = (c .pre .0 .origin, (within-toZ w64 (lit< tt) (c .pre .0 .cells), (c .pre .1, tt)))
+ins c = (c .pre .0, (within-toZ w64 (lit< tt) (c .pre .1), (c .pre .2, tt)))
 
 needed : (c : tie.Start) → Asks (ρ c) far
 needed c = asks (ρ c) far bs tt (ins c)
@@ -34,7 +34,7 @@ needed c = asks (ρ c) far bs tt (ins c)
 returns : tie.Need-returns
 returns c =
     let a = c .args in
-    let cells : toZ w64 (a .cells) ≡ pos (a .cells) = toZ-pos w64 (omega (arith, c .pre .0 .cells)) in
+    let cells : toZ w64 (a .cells) ≡ pos (a .cells) = toZ-pos w64 (omega (arith, c .pre .1)) in
     ap₂ leZ (run (ρ c) far bs tt (ins c) ∙ ap (λ (n : ℤ). a .origin +ℤ n *ℤ a .edge) cells) (toZ-ofZ (c .fits .farthest))
 
 pub axis-fits-spec : {M : Type 1} → statement M

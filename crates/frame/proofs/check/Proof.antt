@@ -4,38 +4,43 @@ use mathlib.Core.List.{List}
 use mathlib.Core.Path.{_≡_, sym, ap, ap₂, _∙_}
 use Prim.Native.Nat.{ℕ}
 use native.Mathlib.Nat.{le-of-eq}
-use Rattle.frame.specs.declared.Layout.{Layout}
-use Rattle.frame.specs.declared.Header.{Header}
-use Rattle.frame.specs.Fields.{Usable, headerOf}
-use Rattle.frame.specs.Layout.{version1}
-use Rattle.frame.specs.Limit.{gives}
-use Rattle.frame.specs.Questions.{Bounded, asked, ofEach, headerQuestions, kindQuestion, saidVerdict}
-use Rattle.frame.proofs.Bounds.{version1-usable, header-bounded}
+use Rattle.layout.specs.declared.Layout.{Layout}
+use Rattle.layout.specs.declared.Header.{Header}
+use Rattle.layout.specs.Layout.{version1}
+use Rattle.layout.specs.Values.{headerIn}
+use Rattle.layout.specs.Taken.{UsableLayout, BoundedHeader}
+use Rattle.layout.proofs.Bounds.{version1-usable, header-bounded}
+use Rattle.refusal.specs.Limit.{gives}
+use Rattle.refusal.specs.Questions.{ofEach}
+use Rattle.refusal.specs.Inner.{saidVerdict}
+use Rattle.refusal.specs.Inner.{asked}
+use Rattle.frame.specs.File.{headerOf}
+use Rattle.frame.specs.Questions.{headerQuestions, kindQuestion}
 use Rattle.frame.proofs.Accepted.{checked-by, header-passed}
 use Rattle.frame.proofs.check.Statement.{statement}
 use Rattle.frame.proofs.check.Tie as tie
 
 -- the layout and the header, as they are named in the contract
-usable : (c : tie.After-version-1) → Usable (c .version-1 .result)
+usable : (c : tie.After-version-1) → UsableLayout (c .version-1 .result)
 usable c = rw (c .version-1 .ensures) version1-usable
 
 abbrev bytes : tie.After-read-header → List ℕ
 bytes c = c .before .before .before .args .file .now
 
-header : (c : tie.After-read-header) → c .read-header .result .header ≡ headerOf version1 (bytes c)
-header c = c .read-header .ensures .header ∙ ap (λ (l : Layout). headerOf l (bytes c)) (c .before .version-1 .ensures)
+header : (c : tie.After-read-header) → c .read-header .result .header ≡ headerOf (bytes c)
+header c = c .read-header .ensures .header ∙ ap (λ (l : Layout). headerIn l (bytes c)) (c .before .version-1 .ensures)
 
-bounded : (c : tie.After-read-header) → Bounded (c .read-header .result .header)
+bounded : (c : tie.After-read-header) → BoundedHeader (c .read-header .result .header)
 bounded c = rw (header c) (header-bounded version1 version1-usable (bytes c))
 
 -- what the two parts of the check say
-first : (c : tie.After-check-header) → let s = bytes (c .before .before) in saidVerdict (c .check-header .result) ≡ asked (headerQuestions version1 (headerOf version1 s) s)
+first : (c : tie.After-check-header) → let s = bytes (c .before .before) in saidVerdict (c .check-header .result) ≡ asked (headerQuestions version1 (headerOf s) s)
 first c =
     c .check-header .ensures
     ∙ ap₂ (λ (l : Layout) (h : Header). asked (headerQuestions l h (bytes (c .before .before)))) (c .before .before .before .version-1 .ensures) (header (c .before .before))
 
 second : (c : tie.After-check-kinds) → let h = c .before .before .before .before .before in let s = bytes h in
-    saidVerdict (c .check-kinds .result) ≡ asked (ofEach (kindQuestion version1 s) (headerOf version1 s .count))
+    saidVerdict (c .check-kinds .result) ≡ asked (ofEach (kindQuestion version1 s) (headerOf s .count))
 second c =
     let h = c .before .before .before .before .before in
     c .check-kinds .ensures

@@ -12,8 +12,9 @@ use mir.Val.{toZ, ofZ}
 use mir.Facts.{toZ-ofZ}
 use Rattle.integers.proofs.Bounds.{within-fits}
 use Rattle.integers.proofs.Omega.{le-true, le-false, true-lt, false-lt}
-use Rattle.frame.specs.Fields.{reservedOf}
-use Rattle.frame.specs.Questions.{answered, extentFits}
+use Rattle.layout.specs.Values.{reservedIn}
+use Rattle.refusal.specs.Questions.{answered}
+use Rattle.frame.specs.Questions.{extentFits}
 use Rattle.frame.proofs.check_header.Statement.{statement}
 use Rattle.frame.proofs.check_header.Tie as tie
 
@@ -25,7 +26,7 @@ abbrev at1 : tie.Else2 → tie.Else1
 at1 c = c .before .before
 
 abbrev at2 : tie.Else3 → tie.Else2
-at2 c = c .before .before .before
+at2 c = c .before .before .before .before
 
 abbrev at3 : tie.Else4 → tie.Else3
 at3 c = c .before
@@ -34,14 +35,14 @@ abbrev at4 : tie.Else5 → tie.Else4
 at4 c = c .before .before .before
 
 -- the edge, as the machine reads it back
-edge-back : (s : tie.Start) → toZ w64 (ofZ w64 (s .args .header .edge)) ≡ s .args .header .edge
-edge-back s = toZ-ofZ (within-fits (lit< tt) (s .pre .1 .edge))
+edge-back : (s : tie.Start) → toZ w64 (ofZ w64 (s .args .header .grid .edge)) ≡ s .args .header .grid .edge
+edge-back s = toZ-ofZ (within-fits (lit< tt) (s .pre .1 .grid .edge))
 
 -- the extent's answer
-extent : (c : tie.After-extent-fits) → let s = at0 (at1 (at2 (at3 (c .before .before)))) in c .extent-fits .result ≡ extentFits (s .args .layout .farthest) (s .args .header)
+extent : (c : tie.After-extent-fits) → let s = at0 (at1 (at2 (at3 (c .before .before)))) in c .extent-fits .result ≡ extentFits (s .args .layout .farthest) (s .args .header .grid)
 extent c =
     let s = at0 (at1 (at2 (at3 (c .before .before)))) in
-    c .extent-fits .ensures ∙ ap (λ (f : ℤ). extentFits f (s .args .header)) (toZ-ofZ {w = w64} (search needs))
+    c .extent-fits .ensures ∙ ap (λ (f : ℤ). extentFits f (s .args .header .grid)) (toZ-ofZ {w = w64} (search needs))
 
 -- each question that was answered yes
 yes1 : (c : tie.Else1) → leb (at0 c .args .layout .header) (length (at0 c .args .file .now)) ≡ true
@@ -50,16 +51,16 @@ yes1 c = le-leb _ _ (c .if1 .left)
 yes2 : (c : tie.Else2) → eqb (at0 (at1 c) .args .header .version) 1 ≡ true
 yes2 c = eq-eqb _ _ (c .if2 .left)
 
-yes3 : (c : tie.Else3) → ltZ (pos 0) (at0 (at1 (at2 c)) .args .header .edge) ≡ true
+yes3 : (c : tie.Else3) → ltZ (pos 0) (at0 (at1 (at2 c)) .args .header .grid .edge) ≡ true
 yes3 c =
     let s = at0 (at1 (at2 c)) in
-    let h = s .args .header .edge in
+    let h = s .args .header .grid .edge in
     true-lt (pos 0) h (le-false h (pos 0) (rw (edge-back s) at (c .if3 .left)))
 
-yes4 : (c : tie.Else4) → let s = at0 (at1 (at2 (at3 c))) in eqb (reservedOf (s .args .layout) (s .args .file .now)) 0 ≡ true
+yes4 : (c : tie.Else4) → let s = at0 (at1 (at2 (at3 c))) in eqb (reservedIn (s .args .layout) (s .args .file .now)) 0 ≡ true
 yes4 c = let s = at0 (at1 (at2 (at3 c))) in eq-eqb _ _ (sym (s .pre .2) ∙ c .if4 .left)
 
-yes5 : (c : tie.Else5) → let s = at0 (at1 (at2 (at3 (at4 c)))) in extentFits (s .args .layout .farthest) (s .args .header) ≡ true
+yes5 : (c : tie.Else5) → let s = at0 (at1 (at2 (at3 (at4 c)))) in extentFits (s .args .layout .farthest) (s .args .header .grid) ≡ true
 yes5 c = sym (extent (c .before)) ∙ not-false (c .before .extent-fits .result) (c .if5 .left)
 
 returns : tie.Need-returns
@@ -73,9 +74,9 @@ returns-2 c = rw (yes1 (c .before .before), ne-eqb _ _ (c .if2 .taken))
 returns-3 : tie.Need-returns-3
 unfolding answered
 returns-3 c =
-    let e2 = c .before .before .before in
+    let e2 = c .before .before .before .before in
     let s = at0 (at1 e2) in
-    let h = s .args .header .edge in
+    let h = s .args .header .grid .edge in
     rw (yes1 (at1 e2), yes2 e2, false-lt (pos 0) h (le-true h (pos 0) (rw (edge-back s) at (c .if3 .taken))))
 
 returns-4 : tie.Need-returns-4

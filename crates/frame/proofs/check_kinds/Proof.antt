@@ -6,11 +6,14 @@ use Prim.Native.Nat.{ℕ, _-_, _≤_, _<_}
 use native.Mathlib.Nat.{mul-le-mul-left, le-of-lt}
 use native.Mathlib.Omega.{arith}
 use lib.Dec.{ltb}
-use Rattle.frame.specs.declared.Layout.{Layout}
-use Rattle.frame.specs.Fields.{kindOf, fromRecord}
-use Rattle.frame.specs.Layout.{recordStart}
-use Rattle.frame.specs.Questions.{passed, asked, ofEach, kindQuestion}
-use Rattle.frame.proofs.Asking.{each-none, each-more, each-no}
+use Rattle.layout.specs.declared.Layout.{Layout}
+use Rattle.layout.specs.Layout.{version1, recordStart}
+use Rattle.layout.specs.Values.{kindIn, fromRecord}
+use Rattle.layout.proofs.Taken.{kind-any}
+use Rattle.refusal.specs.Questions.{ofEach}
+use Rattle.refusal.specs.Inner.{passed, asked}
+use Rattle.frame.specs.Questions.{kindQuestion}
+use Rattle.refusal.proofs.Asking.{each-none, each-more, each-no}
 use Rattle.frame.proofs.check_kinds.Statement.{statement}
 use Rattle.frame.proofs.check_kinds.Tie as tie
 
@@ -31,8 +34,8 @@ from-record-requires c κs =
 
 -- the kind that was read
 kind : (c : tie.After-read-kind Inv-loop μ-loop) → let s = c .before .before .before .before .before in
-    c .read-kind .result ≡ kindOf (fromRecord (s .args .layout) (s .args .file .now) (c .before .before .before .loop .i))
-kind c = c .read-kind .ensures ∙ ap kindOf (c .before .from-record .ensures)
+    c .read-kind .result ≡ kindIn (s .args .layout) (fromRecord (s .args .layout) (s .args .file .now) (c .before .before .before .loop .i))
+kind c = c .read-kind .ensures ∙ ap (kindIn version1) (c .before .from-record .ensures) ∙ kind-any version1 (c .before .before .before .before .before .args .layout) _
 
 returns : tie.Need-returns Inv-loop μ-loop
 returns c =

@@ -4,13 +4,12 @@ use borrow.Author.Tests.{lt-ltb, le-ltb}
 use mathlib.Core.List.{List}
 use mathlib.Core.Path.{_≡_, sym, ap, ap₂, _∙_}
 use Prim.Native.Nat.{ℕ}
-use native.Mathlib.Omega.{arith}
-use Rattle.frame.specs.declared.Layout.{Layout}
-use Rattle.frame.specs.declared.Triangle.{Triangle}
-use Rattle.frame.specs.Fields.{triangleOf, fromRecord}
-use Rattle.frame.specs.Limit.{gives}
+use Rattle.layout.specs.declared.Layout.{Layout}
+use Rattle.layout.specs.declared.Record.{Record}
+use Rattle.layout.specs.Values.{recordIn, fromRecord}
+use Rattle.layout.proofs.Bounds.{version1-usable}
+use Rattle.refusal.specs.Limit.{gives}
 use Rattle.frame.specs.Questions.{checked, withRecord, saidCheck}
-use Rattle.frame.proofs.Bounds.{version1-usable}
 use Rattle.frame.proofs.Accepted.{accepted, reading-refused, reading-accepted}
 use Rattle.frame.proofs.read.Statement.{statement}
 use Rattle.frame.proofs.read.Tie as tie
@@ -21,13 +20,6 @@ bytes c = c .before .before .args .file .now
 -- the file was accepted, with the header that the check gave
 yes : (c : tie.After-header) → checked (bytes (c .before .before)) ≡ gives (c .header .given .0 .0)
 yes c = sym (c .before .before .check .ensures) ∙ ap saidCheck (c .header .given .1)
-
-from-record-requires : tie.Need-from-record-requires
-from-record-requires c κs =
-    let h = c .before .before .before .before in
-    let a = accepted (bytes (h .before .before)) (h .header .given .0 .0) (yes h) in
-    let i-low = c .before .if1 .taken in
-    rw (c .version-1 .ensures) (version1-usable, omega (arith, a .count), omega (arith, a .whole))
 
 returns : tie.Need-returns
 returns c =
@@ -42,7 +34,7 @@ returns-2 c =
     let i = h .before .before .before .before .args .i in
     let part = c .before .from-record .ensures ∙ ap (λ (m : Layout). fromRecord m s i) (l .version-1 .ensures) in
     rw (reading-accepted s i (h .header .given .0 .0) (yes h), lt-ltb i (h .header .given .0 .0 .count) (l .before .if1 .taken))
-    (ap (λ (t : Triangle). gives (withRecord (h .header .given .0 .0) t)) (c .read-triangle .ensures ∙ ap₂ triangleOf (l .version-1 .ensures) part))
+    (ap (λ (r : Record). gives (withRecord (h .header .given .0 .0) r)) (c .read-record .ensures ∙ ap₂ recordIn (l .version-1 .ensures) part))
 
 returns-3 : tie.Need-returns-3
 returns-3 c =
@@ -57,7 +49,10 @@ read-spec =
     (λ c. search needs)
     (λ c. search needs)
     (λ c κs. search needs)
-    from-record-requires
+    (λ c κs.
+    let h = c .before .before .before .before in
+    let r = accepted (bytes (h .before .before)) (h .header .given .0 .0) (yes h) .records _ (c .before .if1 .taken) in
+    rw (c .version-1 .ensures) (version1-usable, r .number, r .start))
     (λ c κs. rw (c .before .version-1 .ensures) version1-usable)
     returns
     returns-2

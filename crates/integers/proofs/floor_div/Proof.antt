@@ -5,7 +5,7 @@ use lib.Signed.{quotZ, remZ}
 use mir.Syntax.{w64}
 use mir.Val.{SFits, toZ, ofZ}
 use mir.Facts.{toZ-ofZ}
-use Rattle.integers.specs.Order.{Floor}
+use Rattle.integers.specs.Inner.{Floor}
 use Rattle.integers.proofs.Omega.{zarith}
 use Rattle.integers.proofs.Quotients.{divisor-pos, quot-fits, rem-fits, floor-less, floor-same, floor-fits}
 use Rattle.integers.proofs.floor_div.Statement.{statement}

@@ -6,7 +6,7 @@ use lib.IntN.{ℤ}
 use Rattle.integers.specs.Within.{Withins}
 use Rattle.integers.proofs.Expr.{Expr, var, _⊖_, nth}
 use Rattle.integers.proofs.Machine.{asks, bounded, learnt}
-use Rattle.overlap.specs.Bounds.{coordinateMax, stepMax, extentMax}
+use Rattle.geometry.specs.Bounds.{coordinateMax, stepMax, extentMax}
 use Rattle.legs.specs.declared.Slab.{Slab}
 use Rattle.legs.specs.Slab.{slabOf, slabBounds}
 use Rattle.legs.proofs.leg_slabs.Statement.{statement}
@@ -15,7 +15,7 @@ use Rattle.legs.proofs.leg_slabs.Tie as tie
 abbrev ρ : tie.Start → List ℤ
 ρ s =
     let a = s .args in
-    a .a .x ∷ a .a .y ∷ a .a .z ∷ a .b .x ∷ a .b .y ∷ a .b .z ∷ a .origin .x ∷ a .origin .y ∷ a .origin .z ∷ a .step ∷ a .extent ∷ []
+    a .a .x ∷ a .a .y ∷ a .a .z ∷ a .b .x ∷ a .b .y ∷ a .b .z ∷ a .l .first .x ∷ a .l .first .y ∷ a .l .first .z ∷ a .l .step ∷ a .l .extent ∷ []
 
 abbrev bs : List ℕ
 bs =
@@ -48,22 +48,22 @@ abbrev Is : Slab → List ℤ → Type 0
 Is r l = r ≡ slabOf (nth l 0) (nth l 1) (nth l 2) (nth l 3) (nth l 4) (nth l 5)
 
 -- each place, from the one behind it
-abbrev at-ex : tie.After-struct-told2 → tie.Start
-at-ex c = c .before .before .before .before
+abbrev at-ex : tie.After-struct-told4 → tie.Start
+at-ex c = c .before .before .before .before .before .before .before
 
-abbrev at-ey : tie.After-struct-told4 → tie.Start
+abbrev at-ey : tie.After-struct-told6 → tie.Start
 at-ey c = at-ex (c .before .before .before .before)
 
-abbrev at-ez : tie.After-struct-told6 → tie.Start
+abbrev at-ez : tie.After-struct-told8 → tie.Start
 at-ez c = at-ey (c .before .before .before .before)
 
-abbrev at-x : tie.After-struct-told8 → tie.Start
+abbrev at-x : tie.After-struct-told10 → tie.Start
 at-x c = at-ez (c .before .before .before .before)
 
-abbrev at-y : tie.After-struct-told10 → tie.Start
+abbrev at-y : tie.After-struct-told12 → tie.Start
 at-y c = at-x (c .before .before .before .before)
 
-abbrev at-z : tie.After-struct-told12 → tie.Start
+abbrev at-z : tie.After-struct-told14 → tie.Start
 at-z c = at-y (c .before .before .before .before)
 
 returns : tie.Need-returns

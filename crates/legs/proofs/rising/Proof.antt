@@ -8,7 +8,7 @@ use Rattle.integers.specs.Order.{maxℤ}
 use Rattle.integers.proofs.Expr.{Expr, var, neg, _⊖_, _⊗_}
 use Rattle.integers.proofs.Machine.{Asks, asks, run, bounded}
 use Rattle.integers.proofs.MinMax.{within-max}
-use Rattle.overlap.specs.Bounds.{offsetMax}
+use Rattle.geometry.specs.Bounds.{offsetMax}
 use Rattle.legs.specs.Slab.{slabBounds}
 use Rattle.legs.proofs.rising.Statement.{statement}
 use Rattle.legs.proofs.rising.Tie as tie

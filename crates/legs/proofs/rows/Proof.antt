@@ -11,7 +11,7 @@ use Rattle.integers.specs.Within.{Withins}
 use Rattle.integers.proofs.Bounds.{within-weaken}
 use Rattle.integers.proofs.Expr.{Expr, var, _⊕_, _⊗_, nth}
 use Rattle.integers.proofs.Machine.{asks, bound, asked, learnt}
-use Rattle.overlap.specs.Bounds.{indexMax}
+use Rattle.geometry.specs.Bounds.{indexMax}
 use Rattle.runs.specs.Run.{slopeMax, reachMax, SlabReady, Narrows, inSlab}
 use Rattle.runs.proofs.Narrow.{by-same}
 use Rattle.legs.specs.declared.Slab.{Slab}

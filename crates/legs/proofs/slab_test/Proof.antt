@@ -8,7 +8,7 @@ use Rattle.integers.specs.Within.{Withins}
 use Rattle.integers.proofs.Expr.{Expr, var, num, _⊕_, _⊗_}
 use Rattle.integers.proofs.Machine.{Asks, asks, run, tested}
 use Rattle.integers.proofs.Omega.{lt-true, lt-false, true-le, false-le}
-use Rattle.overlap.specs.Bounds.{indexMax}
+use Rattle.geometry.specs.Bounds.{indexMax}
 use Rattle.runs.specs.Run.{slopeMax, reachMax}
 use Rattle.legs.specs.Slab.{formOf}
 use Rattle.legs.proofs.slab_test.Statement.{statement}

@@ -8,7 +8,7 @@ use mir.Syntax.{w64}
 use mir.Val.{toZ, ofZ}
 use Rattle.integers.specs.Within.{Within}
 use Rattle.integers.proofs.Machine.{back}
-use Rattle.overlap.specs.Bounds.{indexMax}
+use Rattle.geometry.specs.Bounds.{indexMax}
 use Rattle.legs.specs.Slab.{slabHolds, cellHolds}
 use Rattle.legs.proofs.touches.Statement.{statement}
 use Rattle.legs.proofs.touches.Tie as tie

@@ -5,20 +5,20 @@ use mathlib.Core.Path.{_≡_, sym, ap, _∙_}
 use Prim.Native.Nat.{ℕ}
 use lib.Dec.{leb}
 use lib.ListN.{length}
-use Rattle.grid.specs.Map.{mapLength}
+use Rattle.map.specs.Map.{mapLength}
 use Rattle.listing.specs.Listing.{sideFits, usable}
 use Rattle.listing.proofs.Usable.{side}
 use Rattle.listing.proofs.is_usable.Statement.{statement}
 use Rattle.listing.proofs.is_usable.Tie as tie
 
 -- the sides that passed
-side-x : (c : tie.Then1) → sideFits (c .before .before .before .args .cells .x) ≡ true
+side-x : (c : tie.Then1) → sideFits (c .before .before .before .args .g .nx) ≡ true
 side-x c = sym (c .before .side-fits .ensures) ∙ c .if1 .taken
 
-side-y : (c : tie.Then2) → sideFits (c .before .before .before .before .before .args .cells .y) ≡ true
+side-y : (c : tie.Then2) → sideFits (c .before .before .before .before .before .args .g .ny) ≡ true
 side-y c = sym (c .before .side-fits2 .ensures) ∙ c .if2 .taken
 
-side-z : (c : tie.Then3) → sideFits (c .before .before .before .before .before .before .before .args .cells .z) ≡ true
+side-z : (c : tie.Then3) → sideFits (c .before .before .before .before .before .before .before .args .g .nz) ≡ true
 side-z c = sym (c .before .side-fits3 .ensures) ∙ c .if3 .taken
 
 cell-count-requires : tie.Need-cell-count-requires

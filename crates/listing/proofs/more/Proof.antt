@@ -10,12 +10,12 @@ use Rattle.listing.proofs.Usable.{usable-grid}
 use Rattle.listing.proofs.more.Statement.{statement}
 use Rattle.listing.proofs.more.Tie as tie
 
-test : (c : tie.Then1) → let a = c .before .before .before .before .before .args in usable (length (a .map .now)) (a .rest .cells) ≡ true
+test : (c : tie.Then1) → let a = c .before .before .before .before .before .args in usable (length (a .map .now)) (a .rest .grid) ≡ true
 test c = sym (c .before .is-usable .ensures) ∙ c .if1 .taken
 
 -- what was put, by the definition of a piece
 put : (c : tie.After-put-cells) → let a = c .before .before .before .before .before .before .before .args in
-    (partBy (c .put-cells .result .at) (record { cells = a .rest .cells; from = c .put-cells .result .cell }) ≡ piece (a .map .now) (a .rest) (a .out .now))
+    (partBy (c .put-cells .result .at) (record { grid = a .rest .grid; from = c .put-cells .result .cell }) ≡ piece (a .map .now) (a .rest) (a .out .now))
     × (c .put-cells .last .1 .1 .1 .0 ≡ pieceBytes (a .map .now) (a .rest) (a .out .now))
 put c =
     let t = c .before .before in
@@ -25,8 +25,8 @@ put c =
 cell-count-requires : tie.Need-cell-count-requires
 cell-count-requires c κs =
     let t = c .before .before .before .before in
-    let g = usable-grid _ _ (test t) in
-    (g .x .most, g .y .most, g .z .most)
+    let (x, y, z, room) = usable-grid _ _ (test t) in
+    (x .most, y .most, z .most)
 
 returns : tie.Need-returns
 returns c =

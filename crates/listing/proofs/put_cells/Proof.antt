@@ -4,11 +4,13 @@ use mathlib.Core.Path.{_≡_, refl, sym, ap, _∙_, subst}
 use Prim.Native.Nat.{ℕ, _-_, _<_}
 use native.Mathlib.Omega.{arith}
 use lib.ListN.{length}
-use Rattle.grid.specs.Map.{isFilled}
-use Rattle.listing.specs.Listing.{cellLine, lineMost, lineOf, stopAt, Advances, Ready}
+use Rattle.map.specs.Map.{isFilled}
+use Rattle.text.specs.Lines.{lineMost}
+use Rattle.listing.specs.Listing.{cellLine, lineOf}
+use Rattle.listing.specs.Inner.{stopAt, Advances}
 use Rattle.listing.proofs.Advance.{advance-none, advance-more}
 use Rattle.listing.proofs.Lines.{stop-here, stop-end}
-use Rattle.listing.proofs.Usable.{UsableGrid, usable-grid, ready}
+use Rattle.listing.proofs.Usable.{usable-grid, most-layers}
 use Rattle.listing.proofs.put_cells.Statement.{statement}
 use Rattle.listing.proofs.put_cells.Tie as tie
 
@@ -18,22 +20,21 @@ Inv-loop map from out₀ all nx ny cell₀ at₀ out cell at = Advances (cellLin
 abbrev μ-loop : tie.MeasureT-loop
 μ-loop map from out₀ all nx ny cell₀ at₀ out cell at = all - cell
 
-grid : (s : tie.Start Inv-loop μ-loop) → UsableGrid (length (s .args .map .now)) (s .args .cells)
-grid s = usable-grid (length (s .args .map .now)) (s .args .cells) (s .pre)
-
 put-next-requires : tie.Need-put-next-requires Inv-loop μ-loop
 put-next-requires c κs =
     let k = c .before .before .before .before in
     let s = k .before .before .before in
     let len = length (s .args .map .now) in
-    (subst (λ (n : ℕ). Ready (s .args .cells .x) (s .args .cells .y) n len) (sym (k .cell-count .ensures .0)) (ready len (s .args .cells) (grid s)), omega arith, omega (arith, c .before .before .before .loop .inv .0 .room))
+    let all = k .cell-count .ensures .0 in
+    let (x, y, z, room) = usable-grid len (s .args .g) (s .pre) in
+    (x, y, omega (arith, all, most-layers len (s .args .g) (s .pre)), omega (arith, all, room), omega arith, omega (arith, c .before .before .before .loop .inv .0 .room))
 
 loop-again : tie.Need-loop-again Inv-loop μ-loop
 loop-again c =
     let put = c .before .before in
     let l = put .before .before .before .before in
     let s = l .before .before .before .before in
-    (advance-more (lineOf (s .args .map .now) (s .args .cells)) (l .before .cell-count .result) (l .loop .inv .0) (put .put-next .ensures .0), omega arith)
+    (advance-more (lineOf (isFilled (s .args .map .now)) (s .args .g)) (l .before .cell-count .result) (l .loop .inv .0) (put .put-next .ensures .0), omega arith)
 
 -- a loop that is left where the piece ends has reached its end
 finish : {line : ℕ → List ℕ} {all count from cell at : ℕ} {old new : List ℕ} → all ≡ count → Advances line all from 0 old cell at new
@@ -48,7 +49,7 @@ returns c =
     let l = c .before in
     let k = l .before in
     let s = k .before .before .before in
-    let line = lineOf (s .args .map .now) (s .args .cells) in
+    let line = lineOf (isFilled (s .args .map .now)) (s .args .g) in
     let room = length (s .args .out .now) - l .loop .at in
     let none : k .cell-count .result - l .loop .cell ≡ 0 = omega arith in
     finish (k .cell-count .ensures .0) (l .loop .inv .0) (ap (stopAt line room (l .loop .cell)) none ∙ stop-end line room (l .loop .cell))
@@ -58,7 +59,7 @@ returns-2 c =
     let l = c .before .before in
     let k = l .before in
     let s = k .before .before .before in
-    let line = lineOf (s .args .map .now) (s .args .cells) in
+    let line = lineOf (isFilled (s .args .map .now)) (s .args .g) in
     let room = length (s .args .out .now) - l .loop .at in
     let full : room < lineMost = omega arith in
     finish (k .cell-count .ensures .0) (l .loop .inv .0) (stop-here line room (l .loop .cell) (k .cell-count .result - l .loop .cell) full)
@@ -69,7 +70,7 @@ put-cells-spec =
     (tie.spec
     Inv-loop
     μ-loop
-    (λ c κs. let g = grid (c .before .before) in (g .x .most, g .y .most, g .z .most))
+    (λ c κs. let (x, y, z, room) = usable-grid _ _ (c .before .before .pre) in (x .most, y .most, z .most))
     (λ c. (advance-none _ _ _ _, refl))
     (λ c. omega (arith, c .before .loop .inv .0 .room))
     put-next-requires

@@ -3,10 +3,9 @@ use borrow.Author.Needs.{needs}
 use borrow.Author.Tests.{eq-eqb, ne-eqb}
 use mathlib.Core.Bool.{Bool, true, false, _&&_}
 use mathlib.Core.List.{List, [], _∷_}
-use mathlib.Core.Path.{_≡_, refl, sym, ap, ap₂, _∙_}
+use mathlib.Core.Path.{_≡_, sym, ap, ap₂, _∙_}
 use Prim.Native.Nat.{ℕ, _+_}
 use native.Mathlib.Omega.{arith}
-use lib.Dec.{eqb}
 use lib.IntN.{ℤ, pos, _+ℤ_, _*ℤ_}
 use lib.Signed.{leZ, ltZ}
 use mir.Syntax.{w64}
@@ -14,9 +13,9 @@ use mir.Val.{toZ, ofZ}
 use Rattle.integers.specs.Within.{Withins}
 use Rattle.integers.specs.Order.{minℤ, maxℤ}
 use Rattle.integers.proofs.Omega.{zarith}
-use Rattle.integers.proofs.Expr.{Expr, var, _⊕_, _⊗_, nth, eval}
+use Rattle.integers.proofs.Expr.{Expr, var, _⊕_, _⊗_, nth}
 use Rattle.integers.proofs.Machine.{Asks, mach, back, asks, run, learnt}
-use Rattle.overlap.specs.Bounds.{indexMax}
+use Rattle.geometry.specs.Bounds.{indexMax}
 use Rattle.placed.specs.Box.{isOne, oneBounds}
 use Rattle.placed.proofs.is_one.Statement.{statement}
 use Rattle.placed.proofs.is_one.Tie as tie

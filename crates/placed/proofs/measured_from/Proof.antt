@@ -1,45 +1,17 @@
--- `placed::measured_from` meets its contract: each difference is that of two bounded numbers.
-use mathlib.Core.List.{List, [], _∷_}
-use Prim.Native.Nat.{ℕ}
-use lib.IntN.{ℤ}
-use Rattle.integers.specs.Within.{Withins}
-use Rattle.integers.proofs.Expr.{Expr, var, _⊖_}
-use Rattle.integers.proofs.Machine.{asks, run}
-use Rattle.overlap.specs.Bounds.{coordinateMax, each}
+-- `placed::measured_from` meets its contract: each corner is measured. Assumes nothing.
 use Rattle.placed.proofs.measured_from.Statement.{statement}
 use Rattle.placed.proofs.measured_from.Tie as tie
 
-abbrev bs : List ℕ
-bs = each coordinateMax 6 []
-
-abbrev ρ : tie.Start → List ℤ
-ρ c = let o = c .args .origin in let v = c .args .v in v .x ∷ v .y ∷ v .z ∷ o .x ∷ o .y ∷ o .z ∷ []
-
-ins : (c : tie.Start) → Withins bs (ρ c)
-ins c = let o = c .pre .0 in let v = c .pre .1 in (v .x, (v .y, (v .z, (o .x, (o .y, (o .z, tt))))))
-
-abbrev dx : Expr
-dx = var 0 ⊖ var 3
-
-abbrev dy : Expr
-dy = var 1 ⊖ var 4
-
-abbrev dz : Expr
-dz = var 2 ⊖ var 5
-
-sub-x : tie.Need-sub-x
-sub-x c = let s = c .before .before .before .before in asks (ρ s) dx bs tt (ins s) .2
-
-sub-y : tie.Need-sub-y
-sub-y c = let s = c .before .before .before .before .before .before .before .before in asks (ρ s) dy bs tt (ins s) .2
-
-sub-z : tie.Need-sub-z
-sub-z c = let s = c .before .before .before .before .before .before .before .before .before .before .before .before in asks (ρ s) dz bs tt (ins s) .2
-
 returns : tie.Need-returns
 returns c =
-    let s = c .before .before .before .before .before .before .before .before .before .before .before .before in
-    λ i. record { x = run (ρ s) dx bs tt (ins s) i; y = run (ρ s) dy bs tt (ins s) i; z = run (ρ s) dz bs tt (ins s) i }
+    let b = c .before in
+    λ i. record { v0 = b .before .difference .ensures i; v1 = b .difference2 .ensures i; v2 = c .difference3 .ensures i }
 
 pub measured-from-spec : {M : Type 1} → statement M
-measured-from-spec = tie.close (tie.spec sub-x sub-y sub-z returns)
+measured-from-spec =
+    tie.close
+    (tie.spec
+    (λ c κs. let p = c .pre in (p .1 .v0, p .0))
+    (λ c κs. let p = c .before .pre in (p .1 .v1, p .0))
+    (λ c κs. let p = c .before .before .pre in (p .1 .v2, p .0))
+    returns)

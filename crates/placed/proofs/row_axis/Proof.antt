@@ -2,22 +2,21 @@
 use mathlib.Core.List.{List, [], _∷_}
 use mathlib.Core.Bool.{Bool}
 use mathlib.Core.Path.{_≡_, refl, sym, _∙_}
-use Prim.Native.Nat.{ℕ, _<_}
+use Prim.Native.Nat.{_<_}
 use lib.IntN.{ℤ}
 use Rattle.integers.specs.Within.{Withins}
 use Rattle.integers.proofs.Expr.{Expr, var, nth}
 use Rattle.integers.proofs.Machine.{machs, bounded, learnt}
-use Rattle.overlap.specs.Geometry.{Triangle, Axis, xOf, yOf, zOf}
-use Rattle.overlap.specs.Vectors.{pointOf, triangleOf}
-use Rattle.ranges.specs.declared.CellRange.{CellRange}
-use Rattle.placed.specs.Lattice.{boxesOf}
+use Rattle.geometry.specs.declared.Triangle.{Triangle}
+use Rattle.geometry.specs.Geometry.{Axis, xOf, yOf, zOf}
+use Rattle.grid.specs.declared.CellRange.{CellRange}
 use Rattle.placed.specs.Box.{isOne, oneBounds, stays, axisOf, rowAxis}
 use Rattle.placed.proofs.row_axis.Statement.{statement}
 use Rattle.placed.proofs.row_axis.Tie as tie
 
 -- the numbers of an axis
 abbrev ρ : tie.Start → Axis → List ℤ
-ρ s a = let g = s .args in a (boxesOf (g .g) .first) ∷ g .g .step ∷ g .g .extent ∷ a (pointOf (g .v0)) ∷ a (pointOf (g .v1)) ∷ a (pointOf (g .v2)) ∷ []
+ρ s a = let l = s .args .l in let t = s .args .t in a (l .first) ∷ l .step ∷ l .extent ∷ a (t .v0) ∷ a (t .v1) ∷ a (t .v2) ∷ []
 
 abbrev es : List Expr
 es = var 0 ∷ var 1 ∷ var 2 ∷ var 3 ∷ var 4 ∷ var 5 ∷ []
@@ -39,7 +38,7 @@ abbrev Says : CellRange → Bool → List ℤ → Type 0
 Says r b l = b ≡ isOne r (nth l 0) (nth l 1) (nth l 2) (nth l 3) (nth l 4) (nth l 5)
 
 abbrev at0 : tie.After-struct-told6 → tie.Start
-at0 c = c .before .before .before .before .before .before .before .before .before
+at0 c = c .before .before .before .before .before .before .before .before .before .before .before .before .before
 
 abbrev at1 : tie.After-struct-told12 → tie.After-is-one
 at1 c = c .before .before .before .before .before .before
@@ -58,18 +57,18 @@ module _ (c : tie.After-is-one3) where
   s = at0 (y .before)
 
   abbrev t : Triangle
-  t = triangleOf (s .args .v0) (s .args .v1) (s .args .v2)
+  t = s .args .t
 
-  in-x : {b : Bool} → c .is-one3 .result ≡ b → b ≡ stays (s .args .g) t (s .args .b .x) (s .args .g .x) xOf
+  in-x : {b : Bool} → c .is-one3 .result ≡ b → b ≡ stays (s .args .l) t (s .args .b .x) xOf
   in-x h = sym h ∙ learnt (ρ s xOf) (Says (s .args .b .x) (c .is-one3 .result)) es oneBounds tt (ins-x s) (c .is-one3 .ensures)
 
-  in-y : {b : Bool} → y .is-one .result ≡ b → b ≡ stays (s .args .g) t (s .args .b .y) (s .args .g .y) yOf
+  in-y : {b : Bool} → y .is-one .result ≡ b → b ≡ stays (s .args .l) t (s .args .b .y) yOf
   in-y h = sym h ∙ learnt (ρ s yOf) (Says (s .args .b .y) (y .is-one .result)) es oneBounds tt (ins-y s) (y .is-one .ensures)
 
-  in-z : {b : Bool} → z .is-one2 .result ≡ b → b ≡ stays (s .args .g) t (s .args .b .z) (s .args .g .z) zOf
+  in-z : {b : Bool} → z .is-one2 .result ≡ b → b ≡ stays (s .args .l) t (s .args .b .z) zOf
   in-z h = sym h ∙ learnt (ρ s zOf) (Says (s .args .b .z) (z .is-one2 .result)) es oneBounds tt (ins-z s) (z .is-one2 .ensures)
 
-  abbrev in-axes : {b d e : Bool} → c .is-one3 .result ≡ b → y .is-one .result ≡ d → z .is-one2 .result ≡ e → axisOf b d e ≡ rowAxis (s .args .g) (s .args .b) t
+  abbrev in-axes : {b d e : Bool} → c .is-one3 .result ≡ b → y .is-one .result ≡ d → z .is-one2 .result ≡ e → axisOf b d e ≡ rowAxis (s .args .l) (s .args .b) t
   in-axes f g h = λ i. axisOf (in-x f i) (in-y g i) (in-z h i)
 
 pub row-axis-spec : {M : Type 1} → statement M

@@ -6,4 +6,4 @@ use Rattle.placed.proofs.strides.Statement.{statement}
 use Rattle.placed.proofs.strides.Tie as tie
 
 pub strides-spec : {M : Type 1} → statement M
-strides-spec = tie.close (tie.spec (λ c. let p = c .before .pre in record { fits = omega (arith, mul-le-mul (p .x) (p .y)) }) (λ c. search needs))
+strides-spec = tie.close (tie.spec (λ c. let p = c .before .pre in record { fits = omega (arith, mul-le-mul (p .0) (p .1)) }) (λ c. search needs))

@@ -53,9 +53,10 @@ use denote.Exit.{yes}
 use denote.Triple.Clauses.{ensured, lasts}
 use borrow.Table.OneValue.{part-in, part-out}
 use Rattle.route.specs.declared.RouteAnswer.{RouteAnswer}
-use Rattle.frame.specs.Limit.{Answer}
-use Rattle.route.specs.Route.{Finding, routeAnswer, saidRoute}
-use Rattle.route.specs.Demand.{DemandOf}
+use Rattle.refusal.specs.Limit.{Answer}
+use Rattle.demand.specs.Route.{Finding, routeAnswer}
+use Rattle.route.specs.Said.{saidRoute}
+use Rattle.demand.specs.Demand.{DemandOf}
 use Rattle.route.proofs.RouteAnswer as R
 use Rattle.route.proofs.RouteAnswer.Laws as R′
 use Rattle.points.specs.declared.Point.{Point}

@@ -57,13 +57,15 @@ use denote.Exit.{yes}
 use denote.Triple.Clauses.{ensured, lasts}
 use borrow.Author.Tests.{lt-ltb, le-ltb}
 use Rattle.route.specs.declared.RouteAnswer.{RouteAnswer}
-use Rattle.frame.specs.Limit.{Answer}
-use Rattle.route.specs.Route.{Finding, routeAnswer, saidRoute}
-use Rattle.route.proofs.Demand.{demand-of}
+use Rattle.refusal.specs.Limit.{Answer}
+use Rattle.demand.specs.Route.{Finding, routeAnswer}
+use Rattle.route.specs.Said.{saidRoute}
+use Rattle.demand.proofs.Demand.{demand-of}
 use Rattle.route.proofs.RouteAnswer as R
 use Rattle.route.proofs.RouteAnswer.Laws as R′
 use Rattle.points.specs.declared.Point.{Point}
-use Rattle.points.specs.Points.{numbersOf, withPoint}
+use Rattle.points.specs.Points.{numbersOf}
+use Rattle.points.specs.Inner.{withPoint}
 use Rattle.points.proofs.Numbers.{one-more}
 use Rattle.points.proofs.TooMany.{copied-answer}
 use Rattle.points.proofs.Callees.{slice, bytes, Counted, Count, to-count, goes-count, count-said, Lent, again}

@@ -10,7 +10,7 @@ use Rattle.integers.specs.Order.{minℤ, maxℤ}
 use Rattle.integers.proofs.Expr.{Expr, var, nth}
 use Rattle.integers.proofs.Machine.{back, bounded, learnt, asked, run}
 use Rattle.integers.proofs.MinMax.{within-min, within-max}
-use Rattle.ranges.specs.declared.CellRange.{CellRange}
+use Rattle.grid.specs.declared.CellRange.{CellRange}
 use Rattle.ranges.specs.Range.{rangeBounds, axisBounds, Picks, endsFrom, beginsBy}
 use Rattle.ranges.proofs.axis_range.Statement.{statement}
 use Rattle.ranges.proofs.axis_range.Tie as tie

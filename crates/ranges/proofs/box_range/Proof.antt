@@ -7,9 +7,8 @@ use Rattle.integers.specs.Within.{Withins}
 use Rattle.integers.specs.Order.{minℤ, maxℤ}
 use Rattle.integers.proofs.Expr.{Expr, var, nth}
 use Rattle.integers.proofs.Machine.{machs, bounded, learnt, asked}
-use Rattle.ranges.specs.declared.CellRange.{CellRange}
-use Rattle.overlap.specs.Geometry.{Axis, xOf, yOf, zOf}
-use Rattle.overlap.specs.Vectors.{pointOf}
+use Rattle.grid.specs.declared.CellRange.{CellRange}
+use Rattle.geometry.specs.Geometry.{Axis, xOf, yOf, zOf}
 use Rattle.ranges.specs.Range.{axisBounds, Picks, endsFrom, beginsBy}
 use Rattle.ranges.proofs.box_range.Statement.{statement}
 use Rattle.ranges.proofs.box_range.Tie as tie
@@ -18,7 +17,7 @@ use Rattle.ranges.proofs.box_range.Tie as tie
 abbrev ρ : tie.Start → Axis → List ℤ
 ρ c a =
     let g = c .args in
-    a (pointOf (g .v0)) ∷ a (pointOf (g .v1)) ∷ a (pointOf (g .v2)) ∷ a (pointOf (g .origin)) ∷ g .step ∷ g .extent ∷ []
+    a (g .v0) ∷ a (g .v1) ∷ a (g .v2) ∷ a (g .l .first) ∷ g .l .step ∷ g .l .extent ∷ []
 
 ins-x : (c : tie.Start) → Withins axisBounds (ρ c xOf)
 ins-x c = let t = c .pre .0 in let g = c .pre .1 in (t .v0 .x, (t .v1 .x, (t .v2 .x, (g .first .x, (g .step, (g .extent, tt))))))
@@ -43,13 +42,13 @@ Picked n r l =
 
 -- each place, from the one behind it
 abbrev at0 : tie.After-axis-range → tie.Start
-at0 c = c .before .before .before .before .before
+at0 c = c .before .before .before .before .before .before .before .before
 
 abbrev at1 : tie.After-axis-range2 → tie.After-axis-range
-at1 c = c .before .before .before .before .before
+at1 c = c .before .before .before .before .before .before .before
 
 abbrev at2 : tie.After-axis-range3 → tie.After-axis-range2
-at2 c = c .before .before .before .before .before
+at2 c = c .before .before .before .before .before .before .before
 
 returns : tie.Need-returns
 returns c =
@@ -67,7 +66,7 @@ pub box-range-spec : {M : Type 1} → statement M
 box-range-spec =
     tie.close
     (tie.spec
-    (λ c κs. let s = c .before .before .before .before in let g = s .pre .1 in required (ρ s xOf) (s .args .nx) (ins-x s) (g .positive) (s .pre .2 .x))
-    (λ c κs. let s = at0 (c .before .before .before .before) in let g = s .pre .1 in required (ρ s yOf) (s .args .ny) (ins-y s) (g .positive) (s .pre .2 .y))
-    (λ c κs. let s = at0 (at1 (c .before .before .before .before)) in let g = s .pre .1 in required (ρ s zOf) (s .args .nz) (ins-z s) (g .positive) (s .pre .2 .z))
+    (λ c κs. let s = c .before .before .before .before .before .before .before in let g = s .pre .1 in required (ρ s xOf) (s .args .nx) (ins-x s) (g .positive) (s .pre .2 .x))
+    (λ c κs. let s = at0 (c .before .before .before .before .before .before) in let g = s .pre .1 in required (ρ s yOf) (s .args .ny) (ins-y s) (g .positive) (s .pre .2 .y))
+    (λ c κs. let s = at0 (at1 (c .before .before .before .before .before .before)) in let g = s .pre .1 in required (ρ s zOf) (s .args .nz) (ins-z s) (g .positive) (s .pre .2 .z))
     returns)

@@ -8,7 +8,8 @@ use lib.Signed.{_≤ℤ_, _<ℤ_}
 use mir.Syntax.{w32, w64}
 use mir.Val.{toZ, ofZ}
 use Rattle.integers.specs.Within.{Within}
-use Rattle.integers.specs.Order.{minℤ, maxℤ, Floor}
+use Rattle.integers.specs.Order.{minℤ, maxℤ}
+use Rattle.integers.specs.Inner.{Floor}
 use Rattle.integers.proofs.Bounds.{within-fits, fits-within}
 use Rattle.integers.proofs.Expr.{Expr, var, num, neg, _⊕_, _⊖_, nth}
 use Rattle.integers.proofs.Machine.{back, asks, run, bound, learnt, asked}

@@ -5,24 +5,25 @@ use mathlib.Core.Bool.{true}
 use mathlib.Core.Path.{_≡_, sym, ap, _∙_}
 use Prim.Native.Nat.{ℕ}
 use lib.Dec.{leb}
-use Rattle.frame.specs.Questions.{asked, ofEach}
-use Rattle.frame.proofs.Asking.{stopped, through}
-use Rattle.grid.specs.Map.{mapLength}
-use Rattle.fill.specs.Steel.{gridAt, cellCount}
-use Rattle.route.specs.Route.{pointsOf, countFits, pointQuestion}
-use Rattle.route.proofs.Ready.{points-length}
+use Rattle.refusal.specs.Questions.{ofEach}
+use Rattle.refusal.specs.Inner.{asked}
+use Rattle.refusal.proofs.Asking.{stopped, through}
+use Rattle.map.specs.Map.{mapLength}
+use Rattle.grid.specs.Grid.{cellCount}
+use Rattle.demand.specs.Route.{pointsOf, countFits, pointQuestion}
+use Rattle.demand.proofs.Points.{points-length}
 use Rattle.route.proofs.check_last.Statement.{statement}
 use Rattle.route.proofs.check_last.Tie as tie
 
 abbrev start : tie.After-map-length → tie.Start
-start c = c .before .before .before
+start c = c .before .before
 
 -- the map's length
-long : (c : tie.After-map-length) → c .map-length .result ≡ mapLength (cellCount (start c .args .header))
+long : (c : tie.After-map-length) → c .map-length .result ≡ mapLength (cellCount (start c .args .g))
 long c = c .map-length .ensures ∙ ap mapLength (c .before .cell-count .ensures .0)
 
 -- each question that was answered yes
-yes8 : (c : tie.Else1) → let a = start (c .before) .args in leb (mapLength (cellCount (a .header))) (a .len) ≡ true
+yes8 : (c : tie.Else1) → let a = start (c .before) .args in leb (mapLength (cellCount (a .g))) (a .len) ≡ true
 yes8 c = le-leb _ _ (rw (long (c .before)) at (c .if1 .left))
 
 returns : tie.Need-returns
@@ -53,14 +54,14 @@ returns-5 c =
     let e1 = e4 .before .before .before in
     let a = start (e1 .before) .args in
     c .check-points .ensures
-    ∙ ap (λ (n : ℕ). asked (ofEach (pointQuestion (gridAt (a .header)) (pointsOf (a .numbers .now))) n)) (sym (points-length (a .numbers .now)))
+    ∙ ap (λ (n : ℕ). asked (ofEach (pointQuestion (a .g) (pointsOf (a .numbers .now))) n)) (sym (points-length (a .numbers .now)))
     ∙ sym (through _ _ _ (yes8 e1) ∙ through _ _ _ (yes9 e4))
 
 pub check-last-spec : {M : Type 1} → statement M
 check-last-spec =
     tie.close
     (tie.spec
-    (λ c κs. search needs)
+    (λ c κs. let w = c .pre .within in (w .x .most, w .y .most, w .z .most))
     (λ c κs. search needs)
     returns
     returns-2

@@ -4,15 +4,16 @@ use mathlib.Core.Path.{_≡_, sym, _∙_}
 use mir.Syntax.{w64}
 use mir.Val.{toZ, ofZ}
 use Rattle.integers.proofs.Machine.{back}
-use Rattle.overlap.specs.Geometry.{point}
-use Rattle.route.specs.Route.{pointFrom}
-use Rattle.route.proofs.Ready.{point-is}
+use Rattle.geometry.specs.Geometry.{point}
+use Prim.Native.Nat.{_*_}
+use Rattle.layout.specs.Values.{pointFrom}
+use Rattle.demand.proofs.Points.{point-is}
 use Rattle.route.proofs.point_at.Statement.{statement}
 use Rattle.route.proofs.point_at.Tie as tie
 
 -- the three numbers, as they are read
 read : (c : tie.After-read-i163) → let y = c .before in let x = y .before in let a = x .before .args in
-    point (toZ w64 (ofZ w64 (x .read-i16 .result))) (toZ w64 (ofZ w64 (y .read-i162 .result))) (toZ w64 (ofZ w64 (c .read-i163 .result))) ≡ pointFrom (a .numbers .now) (a .m)
+    point (toZ w64 (ofZ w64 (x .read-i16 .result))) (toZ w64 (ofZ w64 (y .read-i162 .result))) (toZ w64 (ofZ w64 (c .read-i163 .result))) ≡ pointFrom (a .numbers .now) (3 * a .m)
 read c =
     let y = c .before in
     let x = y .before in

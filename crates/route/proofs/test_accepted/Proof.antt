@@ -2,21 +2,22 @@
 use borrow.Author.Needs.{needs}
 use mathlib.Core.Path.{_≡_, sym, ap, _∙_}
 use lib.ListN.{length}
-use Rattle.frame.specs.Questions.{passed, asked, saidVerdict}
-use Rattle.frame.proofs.Asking.{refuses, passes}
-use Rattle.route.specs.Search.{lastQuestions}
-use Rattle.route.proofs.Answers.{last-passed}
+use Rattle.refusal.specs.Inner.{saidVerdict}
+use Rattle.refusal.specs.Inner.{passed, asked}
+use Rattle.refusal.proofs.Asking.{refuses, passes}
+use Rattle.demand.specs.Inner.{lastQuestions}
+use Rattle.demand.proofs.Answers.{last-passed}
 use Rattle.route.proofs.test_accepted.Statement.{statement}
 use Rattle.route.proofs.test_accepted.Tie as tie
 
 -- questions 8 to 10 are passed
-yes : (c : tie.After-enum-told) → let a = c .before .before .before .before .args in asked (lastQuestions (a .header) (length (a .map .now)) (a .numbers .now)) ≡ passed
+yes : (c : tie.After-enum-told) → let a = c .before .before .before .before .args in asked (lastQuestions (a .g) (length (a .map .now)) (a .numbers .now)) ≡ passed
 yes c = sym (c .before .before .check-last .ensures) ∙ ap saidVerdict (c .enum-told .given .1)
 
 test-legs-requires : tie.Need-test-legs-requires
 test-legs-requires c κs =
     let s = c .before .before .before .before in
-    let (room, route) = last-passed (s .args .header) (length (s .args .map .now)) (s .args .numbers .now) (yes c) in
+    let (room, route) = last-passed (s .args .g) (length (s .args .map .now)) (s .args .numbers .now) (yes c) in
     (s .pre, room, route)
 
 pub test-accepted-spec : {M : Type 1} → statement M

@@ -1,32 +1,42 @@
 -- `route::test_legs` meets its contract: the legs before the loop's touch no filled cell. Assumes nothing.
 use borrow.Author.Needs.{needs}
+use mathlib.Core.List.{List}
 use mathlib.Core.Path.{_≡_, sym, ap, ap₂, _∙_}
 use Prim.Native.Nat.{ℕ, _+_, _-_, _<_, _≤_}
 use native.Mathlib.Omega.{arith}
-use Rattle.overlap.specs.Bounds.{BoundedPoint}
-use Rattle.overlap.specs.Geometry.{Point, leg}
-use Rattle.grid.specs.Map.{isFilled}
-use Rattle.frame.specs.Limit.{gives}
-use Rattle.fill.specs.Steel.{gridAt}
-use Rattle.route.specs.declared.Found.{Found}
-use Rattle.route.specs.Route.{pointCount, pointsOf, pointAt, legCount, firstTouched, onLeg, firstBlocked, tested, free}
-use Rattle.route.proofs.First.{legs-none, legs-more, legs-blocked}
-use Rattle.route.proofs.Ready.{points-length, point-bounded}
+use lib.Dec.{lit≤}
+use lib.IntN.{ℤ}
+use Rattle.geometry.specs.Bounds.{BoundedPoint}
+use Rattle.geometry.specs.declared.Point.{Point}
+use Rattle.geometry.specs.Geometry.{leg}
+use Rattle.map.specs.Map.{isFilled}
+use Rattle.refusal.specs.Limit.{gives}
+use Rattle.touch.specs.declared.Found.{Found}
+use Rattle.touch.specs.Touch.{firstTouched}
+use Rattle.grid.specs.declared.Grid.{Grid}
+use Rattle.grid.proofs.Usable.{usable-weaken}
+use Rattle.demand.specs.Route.{pointCount, pointsOf, pointAt, legAt, legCount, firstBlocked, tested, free}
+use Rattle.demand.proofs.First.{legs-none, legs-more, legs-blocked}
+use Rattle.demand.proofs.Points.{points-length, point-bounded}
 use Rattle.route.proofs.test_legs.Statement.{statement}
 use Rattle.route.proofs.test_legs.Tie as tie
 
+-- the cell that is found on leg m
+abbrev onLeg : List ℕ → Grid → List ℤ → ℕ → Found
+onLeg map g numbers m = firstTouched (isFilled map) g (legAt (pointsOf numbers) m)
+
 abbrev Inv-loop : tie.InvT-loop
-Inv-loop header map numbers legs m₀ m = (m ≤ legs) × (firstBlocked (onLeg (isFilled map) (gridAt header) (pointsOf numbers)) m ≡ free)
+Inv-loop g map numbers legs m₀ m = (m ≤ legs) × (firstBlocked (onLeg map g numbers) m ≡ free)
 
 abbrev μ-loop : tie.MeasureT-loop
-μ-loop header map numbers legs m₀ m = legs - m
+μ-loop g map numbers legs m₀ m = legs - m
 
 abbrev start : tie.At-loop Inv-loop μ-loop → tie.Start Inv-loop μ-loop
 start c = c .before .before
 
 module _ (s : tie.Start Inv-loop μ-loop) where
   abbrev find : ℕ → Found
-  find = onLeg (isFilled (s .args .map .now)) (gridAt (s .args .header)) (pointsOf (s .args .numbers .now))
+  find = onLeg (s .args .map .now) (s .args .g) (s .args .numbers .now)
 
   -- the number of legs
   legs : legCount (pointsOf (s .args .numbers .now)) ≡ pointCount (s .args .numbers .now) - 1
@@ -34,14 +44,14 @@ module _ (s : tie.Start Inv-loop μ-loop) where
 
   -- a point of the route
   bounded : (m : ℕ) {p : Point} → m < pointCount (s .args .numbers .now) → p ≡ pointAt (pointsOf (s .args .numbers .now)) m → BoundedPoint p
-  bounded m l e = rw e (point-bounded (s .pre .0) (s .pre .2 .inside m l))
+  bounded m l e = rw e (point-bounded (s .pre .0 .within) (s .pre .2 .inside m l))
 
 first-touched-requires : tie.Need-first-touched-requires Inv-loop μ-loop
 first-touched-requires c κs =
     let l = c .before .before .before in
     let s = start l in
     let t = c .before .before .loop-test .taken in (
-      s .pre .0,
+      usable-weaken (lit≤ tt) (lit≤ tt) (s .pre .0),
       s .pre .1,
       bounded s (l .loop .m) (omega arith) (c .before .point-at .ensures),
       bounded s (l .loop .m + 1) (omega arith) (c .point-at2 .ensures),
@@ -52,7 +62,7 @@ found : (c : tie.After-first-touched Inv-loop μ-loop) → let l = c .before .be
 found c =
     let a = start (c .before .before .before .before) .args in
     c .first-touched .ensures
-    ∙ ap₂ (λ (p q : Point). firstTouched (isFilled (a .map .now)) (gridAt (a .header)) (leg p q)) (c .before .before .point-at .ensures) (c .before .point-at2 .ensures)
+    ∙ ap₂ (λ (p q : Point). firstTouched (isFilled (a .map .now)) (a .g) (leg p q)) (c .before .before .point-at .ensures) (c .before .point-at2 .ensures)
 
 returns : tie.Need-returns Inv-loop μ-loop
 unfolding tested

@@ -1,12 +1,11 @@
 -- `route::test_route` meets its contract: the answer is the definition's, of which demand 3 is a theorem. Assumes nothing.
 use borrow.Author.Needs.{needs}
 use mathlib.Core.Path.{_≡_, sym, ap, _∙_}
-use Rattle.frame.specs.Limit.{gives}
+use Rattle.refusal.specs.Limit.{gives}
 use Rattle.frame.specs.Questions.{checked, saidCheck}
 use Rattle.frame.proofs.Accepted.{accepted}
-use Rattle.route.proofs.Answers.{answer-refused, answer-accepted}
-use Rattle.route.proofs.Demand.{demand-of}
-use Rattle.route.proofs.Ready.{ready}
+use Rattle.demand.proofs.Answers.{answer-refused, answer-accepted}
+use Rattle.demand.proofs.Demand.{demand-of}
 use Rattle.route.proofs.test_route.Statement.{statement}
 use Rattle.route.proofs.test_route.Tie as tie
 
@@ -35,6 +34,6 @@ test-route-spec =
     (λ c κs. search needs)
     (λ c. search needs)
     (λ c. search needs)
-    (λ c κs. ready (accepted _ _ (file (c .before))))
+    (λ c κs. accepted _ _ (file (c .before)) .grid)
     returns
     returns-2)

@@ -1,13 +1,9 @@
 -- `runs::by_form` meets its contract: the form rises or falls. Assumes nothing.
 use mathlib.Core.Path.{subst₂}
-use Prim.Native.Nat.{ℕ}
-use native.Mathlib.Omega.{arith}
-use lib.IntN.{ℤ, pos}
-use lib.Signed.{_≤ℤ_}
 use mir.Syntax.{w64}
-use mir.Val.{SFits, toZ, ofZ}
+use mir.Val.{toZ, ofZ}
 use mir.Facts.{toZ-ofZ}
-use Rattle.integers.proofs.Omega.{zarith, lt-true, lt-false}
+use Rattle.integers.proofs.Omega.{lt-true, lt-false}
 use Rattle.integers.proofs.Laws.{<→≤}
 use Rattle.runs.specs.Run.{Stepping, Narrows, passes}
 use Rattle.runs.proofs.Narrow.{by-rising, by-falling}

@@ -1,17 +1,16 @@
 -- `runs::by_slab` meets its contract: three searches, each from where the last one ended. Assumes nothing.
 use mathlib.Core.List.{List, [], _∷_}
-use mathlib.Core.Path.{_≡_, _∙_, ap}
 use Prim.Native.Nat.{ℕ}
 use native.Mathlib.Omega.{arith}
 use lib.Dec.{lit≤}
-use lib.IntN.{ℤ, pos, negℤ, _-ℤ_}
+use lib.IntN.{ℤ, pos}
 use lib.Signed.{_≤ℤ_}
-use Rattle.integers.specs.Within.{Within, Withins}
+use Rattle.integers.specs.Within.{Withins}
 use Rattle.integers.proofs.Omega.{zarith, neg! }
 use Rattle.integers.proofs.Bounds.{within-weaken}
-use Rattle.integers.proofs.Expr.{Expr, var, num, neg, _⊕_, _⊖_, _⊗_, nth}
+use Rattle.integers.proofs.Expr.{Expr, var, num, neg, _⊖_, nth}
 use Rattle.integers.proofs.Machine.{asks, run, bound, learnt, asked}
-use Rattle.runs.specs.Run.{slopeMax, Stepping, Splits, Passing, Failing, slabMax, reachMax, constantMax}
+use Rattle.runs.specs.Run.{slopeMax, Stepping, Splits, FormHolds, FormFails, slabMax, reachMax}
 use Rattle.runs.proofs.Narrow.{in-slab}
 use Rattle.runs.proofs.by_slab.Statement.{statement}
 use Rattle.runs.proofs.by_slab.Tie as tie
@@ -78,9 +77,9 @@ returns c =
     let s = u .before in
     let a = s .args in
     in-slab (a .step) (a .at) (a .reach) (s .pre .low) (s .pre .high)
-    (learnt (ρ s) (λ l. Splits (a .hint) (a .run .end) (Failing (nth l 0) (nth l 1)) (Passing (nth l 0) (nth l 1)) (u .raised .result)) plain bs tt (ins s) (u .raised .ensures))
-    (learnt (ρ s) (λ l. Splits (a .run .first) (u .raised .result) (Passing (nth l 0) (nth l 1)) (Failing (nth l 0) (nth l 1)) (d .lowered .result)) mirror bs tt (ins s) (d .lowered .ensures))
-    (learnt (ρ s) (λ l. Splits (d .lowered .result) (a .run .end) (Failing (nth l 0) (nth l 1)) (Passing (nth l 0) (nth l 1)) (c .raised2 .result)) shift bs tt (ins s) (c .raised2 .ensures))
+    (learnt (ρ s) (λ l. Splits (a .hint) (a .run .end) (FormFails (nth l 0) (nth l 1)) (FormHolds (nth l 0) (nth l 1)) (u .raised .result)) plain bs tt (ins s) (u .raised .ensures))
+    (learnt (ρ s) (λ l. Splits (a .run .first) (u .raised .result) (FormHolds (nth l 0) (nth l 1)) (FormFails (nth l 0) (nth l 1)) (d .lowered .result)) mirror bs tt (ins s) (d .lowered .ensures))
+    (learnt (ρ s) (λ l. Splits (d .lowered .result) (a .run .end) (FormFails (nth l 0) (nth l 1)) (FormHolds (nth l 0) (nth l 1)) (c .raised2 .result)) shift bs tt (ins s) (c .raised2 .ensures))
 
 pub by-slab-spec : {M : Type 1} → statement M
 by-slab-spec =

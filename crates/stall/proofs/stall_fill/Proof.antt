@@ -1,8 +1,8 @@
 -- `stall::stall_fill` meets its contract, case by case of the fill's answer. Assumes nothing.
 use borrow.Author.Needs.{needs}
 use mathlib.Core.Path.{sym, ap, _∙_}
-use Rattle.fill.specs.Steel.{saidFilling}
-use Rattle.stall.specs.Pack.{packedFilling}
+use Rattle.fill.specs.Fill.{saidFilling}
+use Rattle.stall.specs.Calls.{packedFilling}
 use Rattle.stall.proofs.Answers.{filled}
 use Rattle.stall.proofs.stall_fill.Statement.{statement}
 use Rattle.stall.proofs.stall_fill.Tie as tie

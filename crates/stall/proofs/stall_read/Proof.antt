@@ -7,12 +7,12 @@ use Prim.Native.Nat.{ℕ, zero-le}
 use lib.IntN.{ℤ}
 use lib.ListN.{length}
 use Rattle.frame.specs.declared.Reading.{Reading}
-use Rattle.frame.specs.Limit.{Answer}
+use Rattle.refusal.specs.Limit.{Answer}
 use Rattle.frame.specs.Questions.{Contents, reading, saidReading}
-use Rattle.stall.specs.Numbers.{readNumbers, written}
-use Rattle.stall.specs.Pack.{roomed, packedReading, unpackedReading}
+use Rattle.numbers.specs.Numbers.{readNumbers, written}
+use Rattle.stall.specs.Calls.{roomed, packedReading, unpackedReading}
 use Rattle.stall.proofs.Answers.{taken}
-use Rattle.stall.proofs.Readings.{SmallReading, small-reading}
+use Rattle.numbers.proofs.Readings.{SmallReading, small-reading}
 use Rattle.stall.proofs.stall_read.Statement.{statement}
 use Rattle.stall.proofs.stall_read.Tie as tie
 

@@ -2,11 +2,12 @@
 use borrow.Author.Needs.{needs}
 use mathlib.Core.Path.{_≡_, sym, ap, _∙_}
 use Prim.Native.Nat.{ℕ}
-use Rattle.frame.specs.Limit.{Answer}
+use Rattle.refusal.specs.Limit.{Answer}
 use Rattle.route.specs.declared.RouteAnswer.{RouteAnswer}
-use Rattle.route.specs.Route.{Finding, routeAnswer, saidRoute}
-use Rattle.route.specs.Demand.{DemandOf}
-use Rattle.stall.specs.Pack.{packedRoute, unpackedRoute}
+use Rattle.demand.specs.Route.{Finding, routeAnswer}
+use Rattle.route.specs.Said.{saidRoute}
+use Rattle.demand.specs.Demand.{DemandOf}
+use Rattle.stall.specs.Calls.{packedRoute, unpackedRoute}
 use Rattle.stall.proofs.Answers.{tested}
 use Rattle.stall.proofs.stall_route.Statement.{statement}
 use Rattle.stall.proofs.stall_route.Tie as tie

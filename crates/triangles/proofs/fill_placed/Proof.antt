@@ -1,23 +1,20 @@
 -- `triangles::fill_placed` meets its contract: the triangle's forms, and its columns by them. Assumes nothing.
 use borrow.Author.Needs.{needs}
-use mathlib.Core.Path.{_≡_, sym, subst₂}
+use mathlib.Core.Path.{subst₂}
 use lib.IntN.{ℤ}
-use mir.Syntax.{w64}
-use mir.Val.{toZ, ofZ}
 use mir.Facts.{toZ-ofZ}
 use Rattle.forms.specs.Triangle.{FormsFor}
-use Rattle.placed.specs.Placed.{cornersOf}
 use Rattle.triangles.proofs.Ways.{placed-columns}
 use Rattle.triangles.proofs.fill_placed.Statement.{statement}
 use Rattle.triangles.proofs.fill_placed.Tie as tie
 
 abbrev start : tie.After-triangle-forms → tie.Start
-start c = c .before .before .before .before .before .before .before .before
+start c = c .before .before .before .before .before .before
 
-made : (c : tie.After-triangle-forms) → let a = start c .args in FormsFor (cornersOf (a .p)) (a .step) (a .extent) (c .triangle-forms .result)
+made : (c : tie.After-triangle-forms) → let a = start c .args in FormsFor (a .p .t) (a .step) (a .extent) (c .triangle-forms .result)
 made c =
     let s = start c in
-    subst₂ (λ (x y : ℤ). FormsFor (cornersOf (s .args .p)) x y (c .triangle-forms .result)) (toZ-ofZ (s .fits .step)) (toZ-ofZ (s .fits .extent)) (c .triangle-forms .ensures)
+    subst₂ (λ (x y : ℤ). FormsFor (s .args .p .t) x y (c .triangle-forms .result)) (toZ-ofZ (s .fits .step)) (toZ-ofZ (s .fits .extent)) (c .triangle-forms .ensures)
 
 returns : tie.Need-returns
 returns c =
@@ -31,7 +28,7 @@ fill-placed-spec =
     tie.close
     (tie.spec
     (λ c κs.
-    let s = c .before .before .before .before .before .before .before in
+    let s = c .before .before .before .before .before in
     let p = s .pre in
     (p .within, p .normal-is, rw (toZ-ofZ (s .fits .step)) (p .step-in), rw (toZ-ofZ (s .fits .step)) (p .forward), rw (toZ-ofZ (s .fits .extent)) (p .extent-in)))
     (λ c κs.

@@ -1,0 +1,9 @@
+-- The first leg with a cell.
+pub mod First
+-- The points of a route.
+pub mod Points
+-- The answer, from the answers to the questions.
+pub mod Answers
+-- Demand 3, whole.
+pub mod Demand
+pub mod Words

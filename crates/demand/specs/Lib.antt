@@ -1,0 +1,4 @@
+pub mod Route
+pub mod Demand
+-- inner
+pub mod Inner

@@ -1,0 +1,4 @@
+pub mod Geometry
+-- inner
+pub mod Bounds
+pub mod Inner

@@ -1,0 +1,4 @@
+-- What fields taken one behind the other make.
+pub mod Taken
+-- What holds of a header and of a record whatever the bytes are.
+pub mod Bounds

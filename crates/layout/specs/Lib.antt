@@ -1,0 +1,4 @@
+pub mod Layout
+pub mod Values
+-- inner
+pub mod Taken

@@ -1,0 +1,3 @@
+pub mod Map
+-- inner
+pub mod Inner

@@ -1,0 +1,4 @@
+pub mod Limit
+pub mod Questions
+-- inner
+pub mod Inner

@@ -1,0 +1,30 @@
+-- The limits that an input may break, by the numbers of document 01, and what a call says. Definitions only.
+use Prim.Native.Nat.{ℕ}
+use Rattle.refusal.specs.declared.Limit.{Limit}
+use Rattle.refusal.specs.declared.Limit.the-variants.{ShortHeader, Version, ZeroEdge, ReservedBits, Extent, FileLength, UnusedKind, ShortMap, PointCount, PointOutside}
+use Rattle.refusal.specs.declared.Refusal.{Refusal}
+
+-- What a call says: it gives what was asked for; or it is refused, with a number and a place only.
+pub data Answer (A : Type 0) : Type 0 where
+  gives : A → Answer A
+  refused : (number place : ℕ) → Answer A
+
+abbrev pub numbered : ℕ → ℕ → Refusal
+numbered n p = record { number = n; place = p }
+
+-- The number of the question that a broken limit answers with "no", and the place. The place is 0 unless stated.
+abbrev pub refusalOf : Limit → Refusal
+refusalOf ShortHeader = numbered 1 0
+refusalOf Version = numbered 2 0
+refusalOf ZeroEdge = numbered 3 0
+refusalOf ReservedBits = numbered 4 0
+refusalOf Extent = numbered 5 0
+refusalOf FileLength = numbered 6 0
+refusalOf (UnusedKind i) = numbered 7 i
+refusalOf ShortMap = numbered 8 0
+refusalOf PointCount = numbered 9 0
+refusalOf (PointOutside m) = numbered 10 m
+
+-- What a call says that is refused for a limit.
+abbrev pub saidLimit : {A : Type 0} → Limit → Answer A
+saidLimit l = refused (refusalOf l .number) (refusalOf l .place)

@@ -1,0 +1,39 @@
+-- The lines of a listing. Definitions only.
+use mathlib.Core.List.{List, [], _∷_, _++_}
+use Prim.Native.Nat.{ℕ}
+use Rattle.text.specs.Text.{decimal, space, lineFeed}
+
+-- ---- words, with the spaces beside them
+-- "FILLED "
+abbrev pub filledWord : List ℕ
+filledWord = 70 ∷ 73 ∷ 76 ∷ 76 ∷ 69 ∷ 68 ∷ 32 ∷ []
+
+-- " OF "
+abbrev pub ofWord : List ℕ
+ofWord = 32 ∷ 79 ∷ 70 ∷ 32 ∷ []
+
+-- "REFUSED "
+abbrev pub refusedWord : List ℕ
+refusedWord = 82 ∷ 69 ∷ 70 ∷ 85 ∷ 83 ∷ 69 ∷ 68 ∷ 32 ∷ []
+
+-- ---- lines
+-- "FILLED count OF cells"
+abbrev pub filledLine : (count cells : ℕ) → List ℕ
+filledLine count cells = filledWord ++ decimal count ++ ofWord ++ decimal cells ++ lineFeed
+
+-- "REFUSED number place"
+abbrev pub refusedLine : (number place : ℕ) → List ℕ
+refusedLine number place = refusedWord ++ decimal number ++ space ++ decimal place ++ lineFeed
+
+-- "i j k"
+abbrev pub placeLine : (i j k : ℕ) → List ℕ
+placeLine i j k = decimal i ++ space ++ decimal j ++ space ++ decimal k ++ lineFeed
+
+-- ---- lengths that are enough
+-- Of a first line, FILLED or REFUSED, whatever its numbers.
+abbrev pub firstMost : ℕ
+firstMost = 64
+
+-- Of a cell's line. The longest is "63 63 63" with its line feed.
+abbrev pub lineMost : ℕ
+lineMost = 9

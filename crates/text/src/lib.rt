@@ -1,0 +1,79 @@
+// The text of a listing, into bytes that the caller lends: its lines, and what they are made of, numbers in base ten, words
+// and bytes. Each function answers the place behind what it puts.
+ghost use mathlib.Core.List.{[], _∷_};
+ghost use Prim.Native.Nat.{_+_, _<_, _≤_};
+ghost use lib.ListN.{length};
+ghost use Rattle.text.specs.Text.{decimal};
+ghost use Rattle.text.specs.Inner.{Puts};
+ghost use Rattle.text.specs.Lines.{filledLine, refusedLine, placeLine, firstMost, lineMost};
+
+// Puts "FILLED count OF cells" at the start.
+pub fn put_filled(out: &mut [u8], count: usize, cells: usize) -> usize
+    requires { ⌜ firstMost ≤ length (now out) ⌝ }
+    ensures { λ r. ⌜ Puts (now (out .entry)) 0 (filledLine count cells) (now (out .exit)) r ⌝ }
+{
+    let first = put_word(out, 0, b"FILLED ");
+    let behind_count = put_number(out, first, count);
+    let second = put_word(out, behind_count, b" OF ");
+    let behind_cells = put_number(out, second, cells);
+    put_byte(out, behind_cells, 10)
+}
+
+// Puts "REFUSED number place" at the start.
+pub fn put_refused(out: &mut [u8], number: usize, place: usize) -> usize
+    requires { ⌜ firstMost ≤ length (now out) ⌝ }
+    ensures { λ r. ⌜ Puts (now (out .entry)) 0 (refusedLine number place) (now (out .exit)) r ⌝ }
+{
+    let first = put_word(out, 0, b"REFUSED ");
+    let behind_number = put_number(out, first, number);
+    let second = put_byte(out, behind_number, 32);
+    let behind_place = put_number(out, second, place);
+    put_byte(out, behind_place, 10)
+}
+
+// Puts "i j k".
+pub fn put_place(out: &mut [u8], at: usize, i: usize, j: usize, k: usize) -> usize
+    requires { ⌜ (i < 64) × (j < 64) × (k < 64) × (at + lineMost ≤ length (now out)) ⌝ }
+    ensures { λ r. ⌜ Puts (now (out .entry)) at (placeLine i j k) (now (out .exit)) r × (r ≤ length (now (out .entry))) ⌝ }
+{
+    let behind_i = put_number(out, at, i);
+    let second = put_byte(out, behind_i, 32);
+    let behind_j = put_number(out, second, j);
+    let third = put_byte(out, behind_j, 32);
+    let behind_k = put_number(out, third, k);
+    put_byte(out, behind_k, 10)
+}
+
+// Puts a number in base ten: the digits of its tenth, then its last digit.
+pub fn put_number(out: &mut [u8], at: usize, n: usize) -> usize
+    requires { ⌜ at + length (decimal n) ≤ length (now out) ⌝ }
+    ensures { λ r. ⌜ Puts (now (out .entry)) at (decimal n) (now (out .exit)) r ⌝ }
+{
+    if n < 10 {
+        return put_byte(out, at, 48 + n as u8);
+    }
+    let last = put_number(out, at, n / 10);
+    put_byte(out, last, 48 + (n % 10) as u8)
+}
+
+// Puts the bytes of a word.
+pub fn put_word(out: &mut [u8], at: usize, word: &[u8]) -> usize
+    requires { ⌜ at + length (now word) ≤ length (now out) ⌝ }
+    ensures { λ r. ⌜ Puts (now (out .entry)) at (now (word .entry)) (now (out .exit)) r ⌝ }
+{
+    let mut i = 0;
+    while i < word.len() {
+        out[at + i] = word[i];
+        i += 1;
+    }
+    at + i
+}
+
+// Puts one byte.
+pub fn put_byte(out: &mut [u8], at: usize, b: u8) -> usize
+    requires { ⌜ at < length (now out) ⌝ }
+    ensures { λ r. ⌜ Puts (now (out .entry)) at (b ∷ []) (now (out .exit)) r ⌝ }
+{
+    out[at] = b;
+    at + 1
+}

@@ -1,0 +1,4 @@
+-- The lowest number with a property.
+pub mod Lowest
+-- The search of a block.
+mod Scan

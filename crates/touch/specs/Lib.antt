@@ -1,0 +1,3 @@
+pub mod Touch
+-- inner
+pub mod Inner

@@ -1,0 +1,18 @@
+-- The starred rows of document 01, by computation on the definitions themselves, as one statement over the list: each row is what the
+-- definitions of reading, fill and route test give. Assumes nothing.
+use mathlib.Core.Path.{_≡_, refl}
+use Rattle.bits.specs.Field.{bitAt, fieldAt, signedAt}
+use Rattle.refusal.specs.Questions.{answered, ofEach}
+use Rattle.grid.specs.Grid.{inside}
+use Rattle.map.specs.Map.{isFilled, countBelow, firstBits, tabulate, mapOf}
+use Rattle.overlap.specs.Rule.{overlapsBox}
+use Rattle.layout.specs.Values.{headerIn, reservedIn, kindIn, recordIn}
+use Rattle.frame.specs.Questions.{reading}
+use Rattle.fill.specs.Fill.{obstacles, anyOf, filling, filledBytes}
+use Rattle.touch.specs.Touch.{lowest, firstTouched}
+use Rattle.demand.specs.Route.{pointsOf, firstBlocked, tested, routeAnswer}
+use Rattle.worked.specs.Worked.{rows, rowsBy}
+
+pub worked : rowsBy rows ≡ rows
+unfolding bitAt fieldAt signedAt headerIn reservedIn kindIn recordIn answered ofEach reading overlapsBox isFilled countBelow firstBits tabulate mapOf obstacles anyOf filling filledBytes pointsOf lowest firstTouched firstBlocked tested inside routeAnswer
+worked = refl

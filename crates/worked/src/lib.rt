@@ -1,0 +1,1 @@
+// The worked examples of document 01, computed by the definitions; no code.
