@@ -43,7 +43,7 @@ pub fn next_filled(map: &[u8], first: usize, end: usize) -> usize
 }
 
 // The first cell behind the byte of cell n, or `end`.
-pub fn byte_end(n: usize, end: usize) -> usize
+fn byte_end(n: usize, end: usize) -> usize
     requires { ⌜ n < end ⌝ }
     ensures { λ r. ⌜ r ≡ min (n / 8 * 8 + 8) end ⌝ }
 {
