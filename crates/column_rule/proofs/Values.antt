@@ -24,7 +24,7 @@ use Rattle.overlap.specs.Rule.{normal, turned, planeHolds}
 use Rattle.overlap.proofs.Corners.{least8-sum, greatest8-sum}
 use Rattle.forms.specs.Triangle.{edgeForm, planeForm}
 use Rattle.runs.specs.Run.{formAt}
-use Rattle.runs.proofs.Narrow.{same}
+use Rattle.integers.proofs.Truth.{same-truth}
 use Rattle.column_rule.specs.Column.{planePasses}
 use Rattle.column_rule.proofs.Edge.{edgeIn}
 
@@ -46,12 +46,12 @@ module _ (A B F R : ℤ) where
   slab-up : F ≡ A → F ≡ B +ℤ R → (leZ B (pos 0) && leZ (pos 0) A) ≡ (leZ (pos 0) F && leZ F R)
   slab-up e f =
       and-comm (leZ B (pos 0)) (leZ (pos 0) A)
-      ∙ ap₂ _&&_ (ap (leZ (pos 0)) (sym e)) (same (leZ B (pos 0)) (leZ F R) (λ b. omega (zarith, +! B R)) (λ b. omega (zarith, +! B R)))
+      ∙ ap₂ _&&_ (ap (leZ (pos 0)) (sym e)) (same-truth (leZ B (pos 0)) (leZ F R) (λ b. omega (zarith, +! B R)) (λ b. omega (zarith, +! B R)))
 
   slab-down : F ≡ negℤ B → F ≡ R -ℤ A → (leZ B (pos 0) && leZ (pos 0) A) ≡ (leZ (pos 0) F && leZ F R)
   slab-down e f =
-      ap₂ _&&_ (same (leZ B (pos 0)) (leZ (pos 0) F) (λ b. omega (zarith, neg! B)) (λ b. omega (zarith, neg! B)))
-      (same (leZ (pos 0) A) (leZ F R) (λ b. omega (zarith, -! R A)) (λ b. omega (zarith, -! R A)))
+      ap₂ _&&_ (same-truth (leZ B (pos 0)) (leZ (pos 0) F) (λ b. omega (zarith, neg! B)) (λ b. omega (zarith, neg! B)))
+      (same-truth (leZ (pos 0) A) (leZ F R) (λ b. omega (zarith, -! R A)) (λ b. omega (zarith, -! R A)))
 
 -- the numbers of a component of the normal
 module _ (x : ℤ) where

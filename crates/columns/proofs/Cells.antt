@@ -29,7 +29,8 @@ use Rattle.columns.specs.declared.Strides.{Strides}
 use Rattle.columns.specs.Draw.{oneColumn, rowOf, rectangle, range}
 use Rattle.columns.specs.Column.{valueAt, valueMax, columnPasses, cellPasses, runCells, ColumnsReady, DrawsColumns}
 use Rattle.columns.proofs.Drawing.{of-column, draws-nothing, draws-then, drawn-or}
-use Rattle.runs.proofs.Narrow.{same, in-range, range-in}
+use Rattle.integers.proofs.Truth.{same-truth}
+use Rattle.runs.proofs.Narrow.{in-range, range-in}
 
 -- ---- the test of a square: a value that is negative, and values that are not
 pub negative : (x : ℤ) → ltZ x (pos 0) ≡ true → leZ (pos 0) x ≡ false
@@ -87,7 +88,7 @@ pub no-range : (k x : ℕ) → inRange (range k k) x ≡ true → ⊥
 no-range k x e = let (l, h) = in-range (range k k) x e in omega arith
 
 pub range-more : {first k : ℕ} → first ≤ k → (x : ℕ) → (inRange (range first k) x || eqb x k) ≡ inRange (range first (k + 1)) x
-range-more {first} {k} o x = same (inRange (range first k) x || eqb x k) (inRange (range first (k + 1)) x) (to (inRange (range first k) x) refl) back
+range-more {first} {k} o x = same-truth (inRange (range first k) x || eqb x k) (inRange (range first (k + 1)) x) (to (inRange (range first k) x) refl) back
   where
     to : (b : Bool) → inRange (range first k) x ≡ b → (inRange (range first k) x || eqb x k) ≡ true → inRange (range first (k + 1)) x ≡ true
     to true e h = let (l, u) = in-range (range first k) x e in range-in (range first (k + 1)) x l (omega arith)

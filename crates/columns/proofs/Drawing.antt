@@ -20,7 +20,8 @@ use Rattle.map.specs.Inner.{withFilled}
 use Rattle.map.proofs.Filled.{filled-with, length-with}
 use Rattle.columns.specs.declared.Strides.{Strides}
 use Rattle.columns.specs.Draw.{numberOf, uOf, vOf, wOf, cellsOf, Numbers, drawn, Draws, oneColumn, inRun, range}
-use Rattle.runs.proofs.Narrow.{same, in-range, range-in}
+use Rattle.integers.proofs.Truth.{same-truth}
+use Rattle.runs.proofs.Narrow.{in-range, range-in}
 
 -- ---- truths
 and-or : (t a b p : Bool) → ((t && (a && p)) || (t && (b && p))) ≡ (t && ((a || b) && p))
@@ -76,7 +77,7 @@ module _ (g : Strides) where
   -- one cell more of a run
   module _ (h : Numbers g) (i j first k : ℕ) (hi : i < g .nu) (hj : j < g .nv) (hk : k < g .nw) (from : first ≤ k) where
     one-cell : (n : ℕ) → (drawn g (oneColumn i j) (inRun (range first k)) n || eqb n (numberOf g i j k)) ≡ drawn g (oneColumn i j) (inRun (range first (k + 1))) n
-    one-cell n = same (D k || eqb n (numberOf g i j k)) (D (k + 1)) to back
+    one-cell n = same-truth (D k || eqb n (numberOf g i j k)) (D (k + 1)) to back
       where
         D : ℕ → Bool
         D e = drawn g (oneColumn i j) (inRun (range first e)) n

@@ -1,4 +1,6 @@
 -- The theory of integers, in the order in which a reader needs it.
+-- Truths.
+pub mod Truth
 -- An integer as two naturals, which `omega` reads; computed tests of order.
 pub mod Omega
 -- Ring laws and order laws.

@@ -27,7 +27,7 @@ use Rattle.overlap.proofs.Corners.{least8-sum, greatest8-sum}
 use Rattle.grid.specs.declared.BoxRange.{BoxRange}
 use Rattle.grid.specs.Range.{inRange}
 use Rattle.ranges.specs.Range.{PicksBox}
-use Rattle.runs.proofs.Narrow.{same}
+use Rattle.integers.proofs.Truth.{same-truth}
 use Rattle.legs.specs.declared.Slab.{Slab}
 use Rattle.legs.specs.Slab.{risingSlab, slabOf, slabsOf, formOf, slabHolds, rowHolds, cellHolds}
 
@@ -89,7 +89,7 @@ module _ (ea eb va vb oa ob step d i j : ℤ) (down : eb ≤ℤ pos 0) (h : NN d
       ap₂ _&&_ (ap (leZ (pos 0)) (ahead wa wb p)) (ap (leZ (pos 0)) (back ua ub q) ∙ below-reach (formOf s i j) (s .reach))
     where
       below-reach : (x r : ℤ) → leZ (pos 0) (r -ℤ x) ≡ leZ x r
-      below-reach x r = same (leZ (pos 0) (r -ℤ x)) (leZ x r) (λ e. omega (zarith, -! r x)) (λ e. omega (zarith, -! r x))
+      below-reach x r = same-truth (leZ (pos 0) (r -ℤ x)) (leZ x r) (λ e. omega (zarith, -! r x)) (λ e. omega (zarith, -! r x))
 
 -- ---- in the plane of two axes, the leg from (aa, ab) to (ba, bb)
 module _ (aa ab ba bb oa ob step d i j : ℤ) (h : NN d) where

@@ -17,10 +17,10 @@ use Rattle.grid.specs.Cells.{xOfCell, yOfCell, zOfCell}
 use Rattle.grid.specs.Grid.{cellCount}
 use Rattle.map.specs.Map.{isFilled}
 use Rattle.map.specs.Inner.{NextFilled}
-use Rattle.text.specs.Text.{placed}
+use Rattle.text.specs.Text.{spliced}
 use Rattle.text.specs.Inner.{Puts}
 use Rattle.text.specs.Lines.{placeLine, lineMost}
-use Rattle.text.proofs.Texts.{placed-none, placed-more, length-placed}
+use Rattle.text.proofs.Texts.{spliced-none, spliced-more, length-spliced}
 use Rattle.listing.specs.declared.Rest.{Rest}
 use Rattle.listing.specs.Listing.{cellLine, lineOf, linesFrom, pieceOf, usable, partBy, piece, pieceBytes}
 use Rattle.listing.specs.Inner.{stopAt, Advances}
@@ -38,7 +38,7 @@ module _ (line : ℕ → List ℕ) (count : ℕ) where
       record {
         forth = forth;
         room = omega arith;
-        bytes = rw empty (sym (placed-none old at));
+        bytes = rw empty (sym (spliced-none old at));
         moved = omega (arith, ap length empty);
         stop = sym (ap (stopAt line (length old - at) from) (sym left) ∙ stop-skip line (length old - at) from (count - next) k (omega arith) none′ ∙ ap (λ (n : ℕ). stopAt line (length old - at) n (count - next)) ends);
       }
@@ -53,7 +53,7 @@ module _ (line : ℕ → List ℕ) (count : ℕ) where
       record {
         forth = omega arith;
         room = fits;
-        bytes = puts .bytes ∙ ap (placed old at) (sym one);
+        bytes = puts .bytes ∙ ap (spliced old at) (sym one);
         moved = omega (arith, puts .next, ap length one);
         stop = sym (ap (stopAt line (length old - at) from) (sym left) ∙ stop-step line (length old - at) from (count - (from + 1)) (omega arith) ∙ ap (λ (r : ℕ). stopAt line r (from + 1) (count - (from + 1))) rest);
       }
@@ -63,14 +63,14 @@ module _ (line : ℕ → List ℕ) (count : ℕ) where
   advance-none from old =
       let zero : from - from ≡ 0 = omega arith in
       let none : linesFrom line from (from - from) ≡ [] = ap (linesFrom line from) zero in
-      record { forth = omega arith; room = omega arith; bytes = rw none (sym (placed-none old 0)); moved = omega (arith, ap length none); stop = refl }
+      record { forth = omega arith; room = omega arith; bytes = rw none (sym (spliced-none old 0)); moved = omega (arith, ap length none); stop = refl }
 
   pub advance-more : {from at mid behind next end : ℕ} {old m new : List ℕ} → Advances line count from at old mid behind m → Advances line count mid behind m next end new
       → Advances line count from at old next end new
   advance-more {from} {at} {mid} {behind} {next} {end} {old} {m} {new} p q =
       let first = linesFrom line from (mid - from) in
       let second = linesFrom line mid (next - mid) in
-      let long : length m ≡ length old = ap length (p .bytes) ∙ length-placed old at first (omega (arith, p .room, p .moved)) in
+      let long : length m ≡ length old = ap length (p .bytes) ∙ length-spliced old at first (omega (arith, p .room, p .moved)) in
       let parts : mid - from + (next - mid) ≡ next - from = omega (arith, p .forth, q .forth) in
       let at-mid : from + (mid - from) ≡ mid = omega (arith, p .forth) in
       let both : linesFrom line from (next - from) ≡ first ++ second =
@@ -78,8 +78,8 @@ module _ (line : ℕ → List ℕ) (count : ℕ) where
       record {
         forth = omega (arith, p .forth, q .forth);
         room = omega (arith, q .room);
-        bytes = q .bytes ∙ ap (λ (l : List ℕ). placed l behind second) (p .bytes) ∙ ap (λ (k : ℕ). placed (placed old at first) k second) (p .moved)
-            ∙ placed-more old at first second (omega (arith, p .room, p .moved)) ∙ ap (placed old at) (sym both);
+        bytes = q .bytes ∙ ap (λ (l : List ℕ). spliced l behind second) (p .bytes) ∙ ap (λ (k : ℕ). spliced (spliced old at first) k second) (p .moved)
+            ∙ spliced-more old at first second (omega (arith, p .room, p .moved)) ∙ ap (spliced old at) (sym both);
         moved = omega (arith, p .moved, q .moved, ap length both, length-append first second);
         stop = ap (λ (k : ℕ). stopAt line (k - end) next (count - next)) (sym long) ∙ q .stop ∙ ap (λ (k : ℕ). stopAt line (k - behind) mid (count - mid)) long ∙ p .stop;
       }
@@ -106,5 +106,5 @@ advance-piece m r {cell} {at} {out} {new} u p end =
     let len : at ≡ length (pieceOf m r (length out) .text) = omega (arith, p .moved, ap length text) in
     rw u (
       ap₂ (λ (n k : ℕ). partBy n (record { grid = r .grid; from = k })) len end,
-      p .bytes ∙ ap (placed out 0) text,
+      p .bytes ∙ ap (spliced out 0) text,
     )

@@ -18,7 +18,7 @@ use Rattle.frame.specs.Questions.{checked}
 use Rattle.frame.proofs.Accepted.{header-is}
 use Rattle.fill.specs.Fill.{gridOf, filledIn, filling, filledBytes}
 use Rattle.fill.proofs.Answers.{fill-passed}
-use Rattle.text.specs.Text.{placed}
+use Rattle.text.specs.Text.{spliced}
 use Rattle.text.specs.Lines.{filledLine, firstMost}
 use Rattle.listing.specs.Listing.{firstLine, Start, more, shortBuffer, allOf, start, begun, begunMap, begunBytes}
 
@@ -44,7 +44,7 @@ module _ (s m out : List ℕ) where
         let says : begun s m out ≡ gives shortBuffer = given ∙ rw (lt-ltb (length out) firstMost l) in
         (sym says, rw says, rw says)
 
-    pub start-put : firstMost ≤ length out → Begins (gives (more (length (firstLine s)) (allOf (gridOf s)))) (filledBytes s m) (placed out 0 (firstLine s))
+    pub start-put : firstMost ≤ length out → Begins (gives (more (length (firstLine s)) (allOf (gridOf s)))) (filledBytes s m) (spliced out 0 (firstLine s))
     unfolding begunMap begunBytes
     start-put l =
         let says : begun s m out ≡ gives (more (length (firstLine s)) (allOf (gridOf s))) = given ∙ rw (le-ltb (length out) firstMost l) in

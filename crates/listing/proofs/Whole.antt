@@ -26,7 +26,7 @@ use Rattle.frame.specs.Questions.{checked}
 use Rattle.frame.proofs.Accepted.{accepted, header-is, map-most}
 use Rattle.fill.specs.Fill.{gridOf, filledIn, filledBytes}
 use Rattle.fill.proofs.Answers.{fill-refused, fill-short, fill-passed}
-use Rattle.text.specs.Text.{placed}
+use Rattle.text.specs.Text.{spliced}
 use Rattle.text.specs.Lines.{refusedLine, firstMost, lineMost}
 use Rattle.listing.specs.declared.Rest.{Rest}
 use Rattle.listing.specs.Listing.{cellLine, lineOf, linesFrom, firstLine, filledLines, listing, Start, more, allOf, begun, begunMap, begunBytes, refusalText, usable, pieceOf, restAfter, written, last, unusable, piece, pieces, reached, sent, allSent}
@@ -155,8 +155,8 @@ begun-usable s m out len rest more-is = file (checked s) refl
 
 -- ---- the whole
 -- The text at the start of the bytes.
-front : (s t : List ℕ) → take (length t) (placed s 0 t) ≡ t
-unfolding placed
+front : (s t : List ℕ) → take (length t) (spliced s 0 t) ≡ t
+unfolding spliced
 front s t = take-append-seam t (drop (0 + length t) s)
 
 -- The map is long enough for the file, if it is accepted.
@@ -174,7 +174,7 @@ module _ (s m out rooms : List ℕ) (fits : MapFits s m) (long : firstMost ≤ l
   unfolding listing refusalText
   file-refused n p e = rw (le-ltb (length out) firstMost long, e, listing) (λ all. front out (refusedLine n p))
 
-  file-passed : (h : Header) → checked s ≡ gives h → Whole (gives (more (length (firstLine s)) (allOf (gridOf s)))) (filledBytes s m) (placed out 0 (firstLine s))
+  file-passed : (h : Header) → checked s ≡ gives h → Whole (gives (more (length (firstLine s)) (allOf (gridOf s)))) (filledBytes s m) (spliced out 0 (firstLine s))
   unfolding listing
   file-passed h e = rw (e, listing) (λ all. ap₂ _++_ (front out (firstLine s)) (all-lines s m h e (fits h e) rooms (eqb-true _ (cellCount (gridOf s)) all)))
 

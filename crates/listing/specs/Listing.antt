@@ -13,7 +13,7 @@ use Rattle.grid.specs.Grid.{cellCount}
 use Rattle.map.specs.Map.{mapLength, isFilled, countBelow}
 use Rattle.frame.specs.Questions.{checked}
 use Rattle.fill.specs.Fill.{gridOf, filledIn, fillQuestions, filledBytes}
-use Rattle.text.specs.Text.{placed}
+use Rattle.text.specs.Text.{spliced}
 use Rattle.text.specs.Lines.{filledLine, refusedLine, placeLine, firstMost, lineMost}
 use Rattle.listing.specs.declared.Rest.{Rest}
 use Rattle.listing.specs.declared.Begun.{Begun}
@@ -77,7 +77,7 @@ unfoldable pub begunMap : (file map out : List ℕ) → List ℕ
 begunMap s m out = ifBegun (begun s m out) (filledBytes s m) m
 
 unfoldable pub begunBytes : (file map out : List ℕ) → List ℕ
-begunBytes s m out = ifBegun (begun s m out) (placed out 0 (firstLine s)) out
+begunBytes s m out = ifBegun (begun s m out) (spliced out 0 (firstLine s)) out
 
 -- The text that is put for a refusal: its line, where the output is long enough; else nothing.
 unfoldable pub refusalText : Refusal → (out : List ℕ) → List ℕ
@@ -129,7 +129,7 @@ unfoldable pub piece : (map : List ℕ) → Rest → (out : List ℕ) → Part
 piece m r out = cond (usable (length m) (r .grid)) (partBy (length (pieceOf m r (length out) .text)) (restAfter m r (length out))) unusable
 
 unfoldable pub pieceBytes : (map : List ℕ) → Rest → (out : List ℕ) → List ℕ
-pieceBytes m r out = cond (usable (length m) (r .grid)) (placed out 0 (pieceOf m r (length out) .text)) out
+pieceBytes m r out = cond (usable (length m) (r .grid)) (spliced out 0 (pieceOf m r (length out) .text)) out
 
 -- ---- what is sent in all
 -- Pieces one after the other, into buffers of these lengths: each goes on from what the piece before left.
@@ -147,7 +147,7 @@ reached m r (room ∷ rooms) = reached m (restAfter m r room) rooms
 abbrev pub sent : Answer Start → (map out rooms : List ℕ) → List ℕ
 sent (gives (more len rest)) m out rooms = take len out ++ pieces m rest rooms
 sent (gives shortBuffer) m out rooms = []
-sent (refused n p) m out rooms = let t = refusalText (numbered n p) out in take (length t) (placed out 0 t)
+sent (refused n p) m out rooms = let t = refusalText (numbered n p) out in take (length t) (spliced out 0 t)
 
 -- The pieces reach the last cell. A refusal has no pieces. A short output has no listing.
 abbrev pub allSent : Answer Start → (map rooms : List ℕ) → Bool

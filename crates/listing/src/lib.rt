@@ -14,7 +14,7 @@ ghost use Rattle.grid.specs.Grid.{cellCount};
 ghost use Rattle.grid.specs.Usable.{OneTo64};
 ghost use Rattle.map.specs.Map.{isFilled};
 ghost use Rattle.frame.specs.Questions.{checked};
-ghost use Rattle.text.specs.Text.{placed};
+ghost use Rattle.text.specs.Text.{spliced};
 ghost use Rattle.text.specs.Lines.{lineMost};
 ghost use Rattle.listing.specs.Listing.{cellLine, lineOf, saidBegun, begun, begunMap, begunBytes, refusalText, sideFits, usable, saidPiece, piece, pieceBytes};
 ghost use Rattle.listing.specs.Inner.{stopAt, Advances};
@@ -179,7 +179,7 @@ fn put_next(
 // Puts "REFUSED number place" at the start of the output, and answers its length. Where the output has fewer than 64
 // bytes it puts nothing, and answers 0.
 pub fn put_refusal(limit: Limit, out: &mut [u8]) -> usize
-    ensures { λ r. ⌜ (r ≡ length (refusalText (refusalOf limit) (now (out .entry)))) × (now (out .exit) ≡ placed (now (out .entry)) 0 (refusalText (refusalOf limit) (now (out .entry)))) ⌝ }
+    ensures { λ r. ⌜ (r ≡ length (refusalText (refusalOf limit) (now (out .entry)))) × (now (out .exit) ≡ spliced (now (out .entry)) 0 (refusalText (refusalOf limit) (now (out .entry)))) ⌝ }
 {
     if out.len() < 64 {
         return 0;

@@ -14,6 +14,7 @@ use lib.IntN.{ℤ, pos, negℤ, _+ℤ_, _-ℤ_, _*ℤ_}
 use lib.Signed.{_≤ℤ_, _<ℤ_}
 use Rattle.integers.specs.Order.{minℤ, maxℤ}
 use Rattle.integers.specs.Inner.{Floor}
+use Rattle.integers.proofs.Truth.{same-truth}
 use Rattle.integers.proofs.Omega.{zarith, +!, neg!, le-true, true-le}
 use Rattle.integers.proofs.Expr.{Expr, var, neg, _⊕_, _⊖_, _⊗_}
 use Rattle.integers.proofs.Certificates.{le, by-le}
@@ -21,12 +22,6 @@ use Rattle.integers.proofs.Quotients.{≤-floor, floor-≤}
 use Rattle.integers.proofs.MinMax.{min!, max! }
 use Rattle.grid.specs.declared.CellRange.{CellRange}
 use Rattle.ranges.specs.Range.{Picks, endsFrom, beginsBy}
-
--- two tests that hold together are one
-same : (a b : Bool) → (a ≡ true → b ≡ true) → (b ≡ true → a ≡ true) → a ≡ b
-same true b f g = sym (f refl)
-same false true f g = g refl
-same false false f g = refl
 
 -- the same second test, and where it holds the same first one
 both : (a b c d : Bool) → (b ≡ true → a ≡ c) → b ≡ d → (a && b) ≡ (c && d)
@@ -82,7 +77,7 @@ module _ (least greatest o e d : ℤ) (positive : pos 0 <ℤ e) where
     -- the cells below the end
     upto : (i : ℕ) → i < n → ltb i end ≡ beginsBy greatest o e i
     upto i h =
-        same (ltb i end) (beginsBy greatest o e i)
+        same-truth (ltb i end) (beginsBy greatest o e i)
         (λ t. true-le _ _ (→high last i (omega (zarith, ltb-true i end t, max! (pos 0) (minℤ (q +ℤ pos 1) (pos n)), min! (q +ℤ pos 1) (pos n), +! q (pos 1)))))
         (λ t.
         let l = high→ last i (le-true _ _ t) in
@@ -91,7 +86,7 @@ module _ (least greatest o e d : ℤ) (positive : pos 0 <ℤ e) where
     -- of these, the cells from the first on
     from : (i : ℕ) → i < end → leb first i ≡ endsFrom least o e d i
     from i h =
-        same (leb first i) (endsFrom least o e d i)
+        same-truth (leb first i) (endsFrom least o e d i)
         (λ t. true-le _ _ (→low before i (omega (zarith, leb-true first i t, min! (maxℤ (pos 0) (negℤ p)) (pos end), max! (pos 0) (negℤ p)))))
         (λ t. let l = low→ before i (le-true _ _ t) in le-leb first i (omega (zarith, min! (maxℤ (pos 0) (negℤ p)) (pos end), max! (pos 0) (negℤ p))))
 

@@ -11,6 +11,7 @@ use borrow.Author.Tests.{le-leb, lt-ltb, ltb-true, leb-true}
 use lib.Dec.{leb, ltb}
 use lib.IntN.{ℤ, pos, negℤ, _-ℤ_}
 use lib.Signed.{_≤ℤ_, _<ℤ_, leZ, clashℤ}
+use Rattle.integers.proofs.Truth.{same-truth}
 use Rattle.integers.proofs.Omega.{zarith, -!, true-le, le-true}
 use Rattle.integers.proofs.Expr.{var, num, neg, _⊕_, _⊖_, _⊗_}
 use Rattle.integers.proofs.Ring.{ring}
@@ -21,12 +22,7 @@ use Rattle.runs.specs.Run.{formAt, passes, FormHolds, FormFails, Splits,
 le-of-not-lt : {a b : ℕ} → (b < a → ⊥) → a ≤ b
 le-of-not-lt f = le-of-suc-le-suc (lt-of-not-le f)
 
--- two truths that follow from one another
-pub same : (a b : Bool) → (a ≡ true → b ≡ true) → (b ≡ true → a ≡ true) → a ≡ b
-same true b f g = sym (f refl)
-same false true f g = g refl
-same false false f g = refl
-
+-- a cell of a range, by its ends
 pub in-range : (r : CellRange) (k : ℕ) → inRange r k ≡ true → (r .first ≤ k) × (k < r .end)
 in-range r k e =
     let (l, h) = and-eq-true-iff (leb (r .first) k) (ltb k (r .end)) .0 e in
@@ -44,7 +40,7 @@ narrows run r p o f t all only = record {
   ordered = o;
   from = f;
   to = t;
-  exact = λ k. same (inRange r k) (inRange run k && p k)
+  exact = λ k. same-truth (inRange r k) (inRange run k && p k)
       (λ e. let (l, h) = in-range r k e in and-eq-true-iff (inRange run k) (p k) .1 (range-in run k (omega arith) (omega arith), all k l h))
       (λ e. let (i, q) = and-eq-true-iff (inRange run k) (p k) .0 e in let (l, h) = in-range run k i in let (l′, h′) = only k l h q in range-in r k l′ h′);
 }

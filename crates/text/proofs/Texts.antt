@@ -1,8 +1,8 @@
 -- Laws of texts put into bytes.
---     length-placed    the bytes stay as many
---     placed-none      no text
---     placed-byte      one byte
---     placed-more      one text behind another
+--     length-spliced    the bytes stay as many
+--     spliced-none      no text
+--     spliced-byte      one byte
+--     spliced-more      one text behind another
 --     puts-more        the same, of what the code puts
 -- Assumes nothing.
 use mathlib.Core.List.{List, [], _∷_, _++_, append-assoc, append-nil}
@@ -12,7 +12,7 @@ use native.Mathlib.Nat.{add-zero}
 use native.Mathlib.Omega.{arith}
 use lib.ListN.{length, take, drop, set, length-append, length-drop, take-append-drop}
 use lib.Seq.{length-take-le, append-snoc, set-split, take-at, drop-append-add, drop-drop}
-use Rattle.text.specs.Text.{placed}
+use Rattle.text.specs.Text.{spliced}
 use Rattle.text.specs.Inner.{Puts}
 
 module _ (s : List ℕ) (at : ℕ) where
@@ -20,24 +20,24 @@ module _ (s : List ℕ) (at : ℕ) where
   head-length : (t : List ℕ) → at ≤ length s → length (take at s ++ t) ≡ at + length t
   head-length t h = length-append (take at s) t ∙ ap (λ (n : ℕ). n + length t) (length-take-le at s h)
 
-  pub length-placed : (t : List ℕ) → at + length t ≤ length s → length (placed s at t) ≡ length s
-  unfolding placed
-  length-placed t h =
+  pub length-spliced : (t : List ℕ) → at + length t ≤ length s → length (spliced s at t) ≡ length s
+  unfolding spliced
+  length-spliced t h =
       length-append (take at s ++ t) (drop (at + length t) s) ∙ omega (arith, head-length t (omega arith), length-drop (at + length t) s)
 
-  pub placed-none : placed s at [] ≡ s
-  unfolding placed
-  placed-none = ap (λ (k : ℕ). take at s ++ [] ++ drop k s) (add-zero at) ∙ ap (λ (r : List ℕ). r ++ drop at s) (append-nil (take at s)) ∙ take-append-drop at s
+  pub spliced-none : spliced s at [] ≡ s
+  unfolding spliced
+  spliced-none = ap (λ (k : ℕ). take at s ++ [] ++ drop k s) (add-zero at) ∙ ap (λ (r : List ℕ). r ++ drop at s) (append-nil (take at s)) ∙ take-append-drop at s
 
-  pub placed-byte : (b : ℕ) → at < length s → set s at b ≡ placed s at (b ∷ [])
-  unfolding placed
-  placed-byte b h =
+  pub spliced-byte : (b : ℕ) → at < length s → set s at b ≡ spliced s at (b ∷ [])
+  unfolding spliced
+  spliced-byte b h =
       let behind : suc at ≡ at + 1 = omega arith in
       set-split s at b h ∙ sym (append-snoc (take at s) b (drop (suc at) s)) ∙ ap (λ (k : ℕ). take at s ++ (b ∷ []) ++ drop k s) behind
 
-  pub placed-more : (t u : List ℕ) → at ≤ length s → placed (placed s at t) (at + length t) u ≡ placed s at (t ++ u)
-  unfolding placed
-  placed-more t u h =
+  pub spliced-more : (t u : List ℕ) → at ≤ length s → spliced (spliced s at t) (at + length t) u ≡ spliced s at (t ++ u)
+  unfolding spliced
+  spliced-more t u h =
       let head = take at s ++ t in
       let e = head-length t h in
       let behind : at + length t + length u ≡ at + length (t ++ u) = omega (arith, length-append t u) in
@@ -49,6 +49,6 @@ module _ (s : List ℕ) (at : ℕ) where
 
 pub puts-more : {s : List ℕ} {at : ℕ} {t u m e : List ℕ} {mid end : ℕ} → at ≤ length s → Puts s at t m mid → Puts m mid u e end → Puts s at (t ++ u) e end
 puts-more {s} {at} {t} {u} {m} {e} {mid} {end} h p q = record {
-  bytes = q .bytes ∙ ap (λ (l : List ℕ). placed l mid u) (p .bytes) ∙ ap (λ (k : ℕ). placed (placed s at t) k u) (p .next) ∙ placed-more s at t u h;
+  bytes = q .bytes ∙ ap (λ (l : List ℕ). spliced l mid u) (p .bytes) ∙ ap (λ (k : ℕ). spliced (spliced s at t) k u) (p .next) ∙ spliced-more s at t u h;
   next = omega (arith, q .next, p .next, length-append t u);
 }

@@ -25,5 +25,5 @@ abbrev pub lineFeed : List ℕ
 lineFeed = 10 ∷ []
 
 -- ---- the bytes with a text put at a place, and every other byte as it was
-unfoldable pub placed : List ℕ → ℕ → List ℕ → List ℕ
-placed s at t = take at s ++ t ++ drop (at + length t) s
+unfoldable pub spliced : List ℕ → ℕ → List ℕ → List ℕ
+spliced s at t = take at s ++ t ++ drop (at + length t) s

@@ -34,7 +34,8 @@ use Rattle.ranges.specs.Range.{PicksBox}
 use Rattle.forms.specs.declared.Edge.{Edge}
 use Rattle.forms.specs.Form.{edgeAt, planeAt, insideMax, edgeSlopeMax, edgeMax, BoundedEdge}
 use Rattle.forms.specs.Triangle.{FormsFor}
-use Rattle.runs.proofs.Narrow.{same, in-range}
+use Rattle.integers.proofs.Truth.{same-truth}
+use Rattle.runs.proofs.Narrow.{in-range}
 use Rattle.reach.proofs.Row.{Stays, row-holds}
 use Rattle.column_rule.specs.Column.{formsHold, uvOf, cellAlong, columnTest}
 use Rattle.column_rule.proofs.Law.{rule-parts, column-law}
@@ -146,7 +147,7 @@ module _ {g : Strides} {t : Triangle} {l : Lattice} {r : BoxRange} {cells : ℕ}
 
     row-is : (i j k : ℕ) → i < g .nu → j < g .nv → k < g .nw → (oneColumn (r .x .first) (r .y .first) i j && inRun (r .z) i j k) ≡ rule i j k
     row-is i j k hi hj hk =
-        same (oneColumn (r .x .first) (r .y .first) i j && inRun (r .z) i j k) (rule i j k)
+        same-truth (oneColumn (r .x .first) (r .y .first) i j && inRun (r .z) i j k) (rule i j k)
         (λ e.
         let (c, z) = and-eq-true-iff (oneColumn (r .x .first) (r .y .first) i j) (inRange (r .z) k) .0 e in
         let (x, y) = and-eq-true-iff (eqb i (r .x .first)) (eqb j (r .y .first)) .0 c in

@@ -12,7 +12,7 @@ use Rattle.layout.specs.declared.Header.{Header}
 use Rattle.frame.proofs.Accepted.{accepted, header-is}
 use Rattle.fill.specs.Fill.{gridOf, saidFilling}
 use Rattle.fill.proofs.Answers.{left-refused, fill-short}
-use Rattle.text.specs.Text.{placed}
+use Rattle.text.specs.Text.{spliced}
 use Rattle.listing.specs.Listing.{firstLine, more, allOf}
 use Rattle.listing.proofs.Starts.{start-refused, start-short, start-put, first-is}
 use Rattle.listing.proofs.begin_accepted.Statement.{statement}
@@ -64,7 +64,7 @@ returns-4 c =
     let len : put .put-filled .result ≡ length (firstLine (a .file .now)) = omega (arith, p .next, ap length line) in
     let same : a .header .grid ≡ gridOf (a .file .now) = ap (λ (h : Header). h .grid) (sym (header-is (a .file .now) (a .header) (s .pre))) in
     let says = ap₂ (λ (n : ℕ) (g : Grid). gives (more n (allOf g))) len same ∙ b .0 in
-    (says, f .fill-checked .ensures .1 ∙ b .1, p .bytes ∙ ap (placed (a .out .now) 0) line ∙ b .2)
+    (says, f .fill-checked .ensures .1 ∙ b .1, p .bytes ∙ ap (spliced (a .out .now) 0) line ∙ b .2)
 
 pub begin-accepted-spec : {M : Type 1} → statement M
 begin-accepted-spec =

@@ -7,7 +7,7 @@ use lib.ListN.{length}
 use Rattle.refusal.specs.declared.Refusal.{Refusal}
 use Rattle.text.specs.Inner.{Puts}
 use Rattle.text.specs.Lines.{refusedLine, firstMost}
-use Rattle.text.proofs.Texts.{placed-none}
+use Rattle.text.proofs.Texts.{spliced-none}
 use Rattle.listing.specs.Listing.{refusalText}
 use Rattle.listing.proofs.put_refusal.Statement.{statement}
 use Rattle.listing.proofs.put_refusal.Tie as tie
@@ -16,7 +16,7 @@ returns : tie.Need-returns
 unfolding refusalText
 returns c =
     let out = c .before .before .args .out .now in
-    rw (lt-ltb (length out) firstMost (c .if1 .taken)) (refl, sym (placed-none out 0))
+    rw (lt-ltb (length out) firstMost (c .if1 .taken)) (refl, sym (spliced-none out 0))
 
 returns-2 : tie.Need-returns-2
 unfolding refusalText

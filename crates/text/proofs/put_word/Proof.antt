@@ -6,13 +6,13 @@ use native.Mathlib.Numerals.{add-one}
 use native.Mathlib.Omega.{arith}
 use lib.ListN.{length, take, getD, length-set}
 use lib.Seq.{take-suc, take-length, length-take-le}
-use Rattle.text.specs.Text.{placed}
-use Rattle.text.proofs.Texts.{placed-none, placed-byte, placed-more}
+use Rattle.text.specs.Text.{spliced}
+use Rattle.text.proofs.Texts.{spliced-none, spliced-byte, spliced-more}
 use Rattle.text.proofs.put_word.Statement.{statement}
 use Rattle.text.proofs.put_word.Tie as tie
 
 abbrev Inv-loop : tie.InvT-loop
-Inv-loop out₀ at word i₀ out i = (i ≤ length word) × (length out ≡ length out₀) × (out ≡ placed out₀ at (take i word))
+Inv-loop out₀ at word i₀ out i = (i ≤ length word) × (length out ≡ length out₀) × (out ≡ spliced out₀ at (take i word))
 
 abbrev μ-loop : tie.MeasureT-loop
 μ-loop out₀ at word i₀ out i = length word - i
@@ -31,11 +31,11 @@ loop-again c =
     let more : take i word ++ (b ∷ []) ≡ take (i + 1) word = rw (add-one, take-suc word i 0) in (
       omega arith,
       length-set out (a .at + i) b ∙ l .loop .inv .1,
-      placed-byte out (a .at + i) b (omega arith)
-          ∙ ap (λ (s : List ℕ). placed s (a .at + i) (b ∷ [])) (l .loop .inv .2)
-          ∙ ap (λ (k : ℕ). placed (placed (a .out .now) (a .at) (take i word)) k (b ∷ [])) place
-          ∙ placed-more (a .out .now) (a .at) (take i word) (b ∷ []) (omega arith)
-          ∙ ap (placed (a .out .now) (a .at)) more,
+      spliced-byte out (a .at + i) b (omega arith)
+          ∙ ap (λ (s : List ℕ). spliced s (a .at + i) (b ∷ [])) (l .loop .inv .2)
+          ∙ ap (λ (k : ℕ). spliced (spliced (a .out .now) (a .at) (take i word)) k (b ∷ [])) place
+          ∙ spliced-more (a .out .now) (a .at) (take i word) (b ∷ []) (omega arith)
+          ∙ ap (spliced (a .out .now) (a .at)) more,
     )
 
 returns : tie.Need-returns Inv-loop μ-loop
@@ -44,7 +44,7 @@ returns c =
     let word = a .word .now in
     let all : c .before .loop .i ≡ length word = omega arith in
     record {
-      bytes = c .before .loop .inv .2 ∙ ap (λ (k : ℕ). placed (a .out .now) (a .at) (take k word)) all ∙ ap (placed (a .out .now) (a .at)) (take-length word);
+      bytes = c .before .loop .inv .2 ∙ ap (λ (k : ℕ). spliced (a .out .now) (a .at) (take k word)) all ∙ ap (spliced (a .out .now) (a .at)) (take-length word);
       next = ap (λ (k : ℕ). a .at + k) all;
     }
 
@@ -54,7 +54,7 @@ put-word-spec =
     (tie.spec
     Inv-loop
     μ-loop
-    (λ c. (omega arith, refl, sym (placed-none (c .args .out .now) (c .args .at))))
+    (λ c. (omega arith, refl, sym (spliced-none (c .args .out .now) (c .args .at))))
     (λ c. omega arith)
     (λ c. omega arith)
     (λ c. omega arith)
