@@ -7,6 +7,7 @@
  * -------------------
  * - A buffer passes as a pointer and then its length in elements. The pointer points to so many elements, for reading
  *   where it is const. What is written overlaps nothing that is read.
+ * - Lengths and record numbers are 64 bits wide on every machine.
  * - There is no global state, no allocation and no lock. Calls on different buffers may run at the same time.
  * - Every input is answered: a bad one with a refusal, and then every buffer holds what it held before.
  * - Bytes and numbers behind what a call writes keep their contents.
@@ -30,14 +31,13 @@
  *    5  on some axis the grid reaches beyond 8,191
  *    6  the file's length is not 12 + 16 x count
  *    7  a record's kind is 3; place: the lowest such record, from 0
- *    8  the map buffer is shorter than the map              (stall_fill and stall_route)
+ *    8  the map buffer is shorter than the map              (every call but stall_read)
  *    9  not 2 to 64 points, or numbers left over            (stall_route)
  *   10  a point outside the grid; place: the lowest such    (stall_route)
  */
 #ifndef STALL_H
 #define STALL_H
 
-#include <stddef.h>
 #include <stdint.h>
 
 #ifdef __cplusplus
@@ -56,7 +56,7 @@ extern "C" {
 
 /* The top byte of an answer. */
 enum stall_tags {
-    STALL_DONE = 0,    /* stall_fill, stall_read: done; the low 32 bits count filled cells, or numbers written */
+    STALL_DONE = 0,    /* done; the low 32 bits count filled cells, records, or numbers written, by the call */
     STALL_REFUSED = 1, /* every call: the number of the limit, and the place in the low 32 bits */
     STALL_FREE = 2,    /* stall_route: no leg touches a filled cell */
     STALL_BLOCKED = 3, /* stall_route: the first leg that touches one, and its lowest such cell in the low 32 bits */
@@ -71,7 +71,24 @@ enum stall_tags {
  *
  * Answer: STALL_DONE with the number of filled cells, or a refusal by limits 1 to 8.
  */
-uint64_t stall_fill(const uint8_t *file, size_t file_len, uint8_t *map, size_t map_len);
+uint64_t stall_fill(const uint8_t *file, uint64_t file_len, uint8_t *map, uint64_t map_len);
+
+/*
+ * The same fill in steps, for a caller that must do other work between them, as kick a watchdog. Begin, then some records
+ * at a time until every record has had its turn, in any order, then end: the map and the count are those of stall_fill.
+ * Each call asks the file its questions again, so that a file is never trusted: take ranges of records, not single ones.
+ *
+ * stall_fill_begin   empties the map; STALL_DONE with the number of records
+ * stall_fill_some    fills the cells of `count` records from number `first` on, and leaves the other cells as they are;
+ *                    STALL_DONE with the number of these records that the file has, 0 where it has none
+ * stall_fill_end     writes nothing; STALL_DONE with the number of filled cells
+ *
+ * Each answers with a refusal by limits 1 to 8 instead, and then writes nothing.
+ */
+uint64_t stall_fill_begin(const uint8_t *file, uint64_t file_len, uint8_t *map, uint64_t map_len);
+uint64_t stall_fill_some(const uint8_t *file, uint64_t file_len, uint8_t *map, uint64_t map_len, uint64_t first,
+                         uint64_t count);
+uint64_t stall_fill_end(const uint8_t *file, uint64_t file_len, const uint8_t *map, uint64_t map_len);
 
 /*
  * Tests a route of the arm on the map of a frame file, as stall_fill left it. Writes nothing.
@@ -81,8 +98,8 @@ uint64_t stall_fill(const uint8_t *file, size_t file_len, uint8_t *map, size_t m
  *
  * Answer: STALL_FREE; or STALL_BLOCKED with the leg and the cell; or a refusal by limits 1 to 10.
  */
-uint64_t stall_route(const uint8_t *file, size_t file_len, const uint8_t *map, size_t map_len, const int16_t *numbers,
-                     size_t numbers_len);
+uint64_t stall_route(const uint8_t *file, uint64_t file_len, const uint8_t *map, uint64_t map_len, const int16_t *numbers,
+                     uint64_t numbers_len);
 
 /*
  * Reads the header's values and one record of a frame file.
@@ -93,7 +110,7 @@ uint64_t stall_route(const uint8_t *file, size_t file_len, const uint8_t *map, s
  * Answer: STALL_DONE with the numbers written, STALL_READ_NUMBERS, or STALL_HEADER_NUMBERS where there is no such record;
  * STALL_SHORT with the numbers wanted, where out_len is less: then nothing is written; or a refusal by limits 1 to 7.
  */
-uint64_t stall_read(const uint8_t *file, size_t file_len, size_t record, int32_t *out, size_t out_len);
+uint64_t stall_read(const uint8_t *file, uint64_t file_len, uint64_t record, int32_t *out, uint64_t out_len);
 
 /* The tag of an answer: one of enum stall_tags. */
 static inline unsigned stall_tag(uint64_t answer)
@@ -113,7 +130,7 @@ static inline uint32_t stall_place(uint64_t answer)
     return (uint32_t)(answer & 0xffffffffu);
 }
 
-/* The filled cells of a fill, or the numbers of a reading. */
+/* The filled cells of a fill, the records of a step, or the numbers of a reading. */
 static inline uint32_t stall_count(uint64_t answer)
 {
     return (uint32_t)(answer & 0xffffffffu);

@@ -115,6 +115,33 @@ static void rows(void)
     puts("c: worked rows");
 }
 
+/* ---- the fill in steps: two triangles, in any order, into a map that had other cells */
+
+static void steps(void)
+{
+    struct frame f = header(1, 2, 10, 0, 2);
+    record(&f, 0, G->corners);
+    record(&f, 2, ROWS[0].corners);
+    size_t len = length(&f);
+    for (uint64_t first = 0; first < 2; first++) {
+        uint8_t map[2] = {0x0f, 0xaa};
+        CHECK("steps", stall_fill_begin(f.bytes, len, map, 2) == 2 && map[0] == 0 && map[1] == 0xaa);
+        CHECK("steps", stall_fill_some(f.bytes, len, map, 2, first, 1) == 1);
+        CHECK("steps", map[0] == (first == 0 ? G->map : ROWS[0].map) && map[1] == 0xaa);
+        CHECK("steps", stall_fill_some(f.bytes, len, map, 2, 1 - first, 1) == 1);
+        CHECK("steps", map[0] == (G->map | ROWS[0].map) && map[1] == 0xaa);
+        CHECK("steps", stall_fill_end(f.bytes, len, map, 2) == 4);
+        CHECK("steps", stall_fill(f.bytes, len, map, 2) == 4 && map[0] == (G->map | ROWS[0].map));
+    }
+    uint8_t map[1] = {0x08};
+    CHECK("steps", stall_fill_some(f.bytes, len, map, 1, 2, 1) == 0 && map[0] == 0x08);
+    CHECK("steps", stall_fill_some(f.bytes, len, map, 1, UINT64_MAX, UINT64_MAX) == 0 && map[0] == 0x08);
+    CHECK("steps", stall_fill_some(f.bytes, len, map, 1, 0, 0) == 0 && map[0] == 0x08);
+    CHECK("steps", stall_fill_some(f.bytes, len, map, 1, 0, UINT64_MAX) == 2 && map[0] == (0x08 | G->map | ROWS[0].map));
+    CHECK("steps", stall_fill_end(f.bytes, len, map, 1) == 5);
+    puts("c: fill in steps");
+}
+
 /* ---- the worked routes, on the map of g */
 
 static uint64_t route_on_g(const int16_t *numbers, size_t count)
@@ -159,6 +186,9 @@ static void refuses(const uint8_t *file, size_t file_len, size_t map_len, unsign
     check(stall_tag(answer) == STALL_REFUSED && stall_number(answer) == number && stall_place(answer) == place, "limits",
           "the parts of an answer", line);
     check(stall_route(file, file_len, map, map_len, numbers, 6) == wanted, "limits", "stall_route", line);
+    check(stall_fill_begin(file, file_len, map, map_len) == wanted, "limits", "stall_fill_begin", line);
+    check(stall_fill_some(file, file_len, map, map_len, 0, 1) == wanted, "limits", "stall_fill_some", line);
+    check(stall_fill_end(file, file_len, map, map_len) == wanted, "limits", "stall_fill_end", line);
     check(map[0] == 0xaa && map[1] == 0xaa, "limits", "the map is as it was", line);
     if (number <= 7) {
         check(stall_read(file, file_len, 0, out, 20) == wanted, "limits", "stall_read", line);
@@ -248,6 +278,7 @@ static void readings(void)
 int main(void)
 {
     rows();
+    steps();
     routes();
     limits();
     point_limits();

@@ -1,4 +1,5 @@
 -- What a fill answers and leaves, from its parts.
+--     file-refused, map-asked         questions 1 to 8, by the check of the file
 --     left-refused, -given            the bytes that are left, by what the fill says
 --     fill-refused, -short, -passed   what it says and leaves, by the questions
 --     fill-bytes                      the bytes that are left are the map of the file, with the bytes behind it as they were
@@ -31,10 +32,10 @@ module _ {A : Type 0} (x : A) (s : List ℕ) (len : ℕ) where
   in-turn : answered (fillQuestions s len) x ≡ andThen (asked (fileQuestions s)) (answered (mapQuestion (gridOf s) len ∷ []) x)
   in-turn = first-append x (fileQuestions s) (mapQuestion (gridOf s) len ∷ [])
 
-  file-refused : {n p : ℕ} → checked s ≡ refused n p → answered (fillQuestions s len) x ≡ refused n p
+  pub file-refused : {n p : ℕ} → checked s ≡ refused n p → answered (fillQuestions s len) x ≡ refused n p
   file-refused e = in-turn ∙ rw (questions-refused s e)
 
-  map-asked : (h : Header) → checked s ≡ gives h → answered (fillQuestions s len) x ≡ answered (mapQuestion (h .grid) len ∷ []) x
+  pub map-asked : (h : Header) → checked s ≡ gives h → answered (fillQuestions s len) x ≡ answered (mapQuestion (h .grid) len ∷ []) x
   map-asked h e = in-turn ∙ rw (questions-passed s h e) (ap (λ (y : Header). answered (mapQuestion (y .grid) len ∷ []) x) (header-is s h e))
 
 -- ---- what a fill says and leaves

@@ -1,5 +1,5 @@
 -- The cells of a triangle, and files within the overlap test's bounds.
-mod Triangles
+pub mod Triangles
 mod Ready
 -- What the fill says and leaves.
 pub mod Answers

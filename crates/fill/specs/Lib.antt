@@ -1,3 +1,4 @@
 pub mod Fill
+pub mod Part
 -- inner
 pub mod Inner

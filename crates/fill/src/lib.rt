@@ -3,14 +3,14 @@ use frame::Checked;
 use layout::Header;
 use refusal::Limit;
 ghost use mathlib.Core.Path.{_≡_};
-ghost use Prim.Native.Nat.{_≤_};
+ghost use Prim.Native.Nat.{_≤_, _-_};
 ghost use lib.ListN.{length};
 ghost use Rattle.refusal.specs.Limit.{gives};
 ghost use Rattle.grid.specs.Grid.{cellCount};
 ghost use Rattle.map.specs.Map.{mapLength};
 ghost use Rattle.frame.specs.Questions.{checked};
 ghost use Rattle.fill.specs.Fill.{filling, filledBytes, saidFilling};
-ghost use Rattle.fill.specs.Inner.{AddsObstacles};
+ghost use Rattle.fill.specs.Inner.{AddsRecords};
 
 // What a fill answers: the number of filled cells, or the first limit broken.
 pub enum Filling {
@@ -39,21 +39,20 @@ pub fn fill_checked(file: &[u8], header: Header, map: &mut [u8]) -> Filling
         return Filling::Refused(Limit::ShortMap);
     }
     map::clear(map, len);
-    fill_triangles(file, header, map);
+    fill_records(file, header, 0, header.count, map);
     Filling::Filled(map::count(map, n))
 }
 
-// Fills the cells of each triangle in turn. The boxes of the cells are the cells.
-fn fill_triangles(file: &[u8], header: Header, map: &mut [u8])
-    requires { ⌜ (checked (now file) ≡ gives header) × (mapLength (cellCount (header .grid)) ≤ length (now map)) ⌝ }
-    ensures { λ _. ⌜ AddsObstacles (now (file .entry)) (now (map .entry)) (now (map .exit)) ⌝ }
+// Fills the cells of each triangle in turn, of `count` records from number `first` on. The boxes of the cells are the cells.
+pub fn fill_records(file: &[u8], header: Header, first: usize, count: usize, map: &mut [u8])
+    requires { ⌜ (checked (now file) ≡ gives header) × (count ≤ header .count - first) × (mapLength (cellCount (header .grid)) ≤ length (now map)) ⌝ }
+    ensures { λ _. ⌜ AddsRecords (now (file .entry)) first count (now (map .entry)) (now (map .exit)) ⌝ }
 {
     let g = header.grid;
     let l = grid::lattice_of(g);
-    let count = header.count;
     let mut i = 0;
     while i < count {
-        let record = frame::record(file, i);
+        let record = frame::record(file, first + i);
         triangles::fill_triangle(map, g, l, record.triangle);
         i += 1;
     }

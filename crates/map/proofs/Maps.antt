@@ -127,7 +127,7 @@ module _ (p : ℕ → Bool) (cells : ℕ) where
     unfolding isFilled
     filled-map n h = rw (front (n / 8) (omega arith)) (byte-bit (λ m. ltb m cells && p m) (n / 8) n refl)
 
-    bytes-map : Bytes b → Bytes (mapOf p cells ++ b)
+    pub bytes-map : Bytes b → Bytes (mapOf p cells ++ b)
     bytes-map h i = go (decLt i (mapLength cells))
       where
         go : Dec (i < mapLength cells) → getD (mapOf p cells ++ b) i 0 < 256
@@ -190,3 +190,12 @@ module _ (len : ℕ) (s : List ℕ) (room : len ≤ length s) where
       let back : len + k ≡ n / 8 = omega arith in
       cell-of-byte cleared s n
       (ap (λ (i : ℕ). getD cleared i 0) at ∙ getD-append-add (zeros len) (drop len s) k 0 ∙ getD-drop len s k 0 ∙ ap (λ (i : ℕ). getD s i 0) back)
+
+  pub bytes-cleared : Bytes s → Bytes cleared
+  bytes-cleared b i = go (decLt i len)
+    where
+      go : Dec (i < len) → getD cleared i 0 < 256
+      go (yes l) = rw (List·getD-append (zeros len) (drop len s) 0 i (rw (length-zeros len) l), zeros-at len i) (omega arith)
+      go (no l) =
+          let at : i ≡ length (zeros len) + (i - len) = omega (arith, length-zeros len) in
+          rw (ap (λ (j : ℕ). getD cleared j 0) at ∙ getD-append-add (zeros len) (drop len s) (i - len) 0 ∙ getD-drop len s (i - len) 0) (b (len + (i - len)))

@@ -1,6 +1,6 @@
 -- The numbers of the calls' answers fit the bits that they are packed into.
 --     answered-fits                           by the numbers and places of the questions
---     filling-fits, route-fits, reading-fits  each call
+--     filling-fits, beginning-fits, …         each call
 -- Assumes nothing.
 use mathlib.Core.Bool.{Bool, true, false, _&&_, and-eq-true-iff}
 use mathlib.Core.List.{List, [], _∷_, _++_}
@@ -24,9 +24,11 @@ use Rattle.layout.proofs.Bounds.{version1-usable, header-bounded}
 use Rattle.grid.specs.Grid.{cellCount}
 use Rattle.grid.specs.declared.Grid.{Grid}
 use Rattle.geometry.specs.declared.Point.{Point}
-use Rattle.map.specs.Map.{isFilled}
+use Rattle.map.specs.Map.{isFilled, countBelow}
 use Rattle.map.proofs.Counts.{count-most}
 use Rattle.fill.specs.Fill.{gridOf, filledIn, mapQuestion, fillQuestions, filling}
+use Rattle.steps.specs.Steps.{beginning, joining, ending}
+use Rattle.steps.proofs.Joined.{present-most}
 use Rattle.demand.specs.Route.{pointCount, pointsOf, Finding, free, blocked, tested, countFits, pointQuestion, pointQuestions, routeAnswer}
 use Rattle.demand.proofs.Points.{points-length}
 use Rattle.demand.proofs.Demand.{blocked-in}
@@ -90,9 +92,31 @@ module _ (s : List ℕ) where
   unfolding reading
   reading-fits i = answered-fits FitsAlways _ (fileQuestions s) file-fits tt
 
+  -- a call that puts these questions and gives a small number
+  count-fits : (len : ℕ) {n : ℕ} → n < 2 ^ 32 → Fits FitsCount (answered (fillQuestions s len) n)
+  count-fits len = answered-fits FitsCount _ (fillQuestions s len) (fill-fits len)
+
+  count-lt : h .count < 4096
+  count-lt = header-bounded version1 version1-usable s .count
+
+  few-filled : (p : ℕ → Bool) → countBelow p (cellCount (gridOf s)) < 2 ^ 32
+  few-filled p = omega (arith, cells-most, count-most p (cellCount (gridOf s)))
+
+  pub beginning-fits : (m : List ℕ) → Fits FitsCount (beginning s m)
+  unfolding beginning
+  beginning-fits m = count-fits (length m) (omega (arith, count-lt))
+
+  pub joining-fits : (m : List ℕ) (first count : ℕ) → Fits FitsCount (joining s m first count)
+  unfolding joining
+  joining-fits m first count = count-fits (length m) (omega (arith, count-lt, present-most (h .count) first count))
+
+  pub ending-fits : (m : List ℕ) → Fits FitsCount (ending s m)
+  unfolding ending
+  ending-fits m = count-fits (length m) (few-filled (isFilled m))
+
   pub filling-fits : (m : List ℕ) → Fits FitsCount (filling s m)
   unfolding filling
-  filling-fits m = answered-fits FitsCount _ (fillQuestions s (length m)) (fill-fits (length m)) (omega (arith, cells-most, count-most (filledIn s) (cellCount (gridOf s))))
+  filling-fits m = count-fits (length m) (few-filled (filledIn s))
 
 finding-fits : (filled : ℕ → Bool) (g : Grid) (ps : List Point) → length ps ≤ 64 → cellCount g ≤ 64 * 64 * 64 → FitsFinding (tested filled g ps)
 finding-fits filled g ps few-points few-cells = go (tested filled g ps) refl

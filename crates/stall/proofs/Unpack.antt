@@ -1,5 +1,5 @@
 -- The answers that were packed come back.
---     filling-back, route-back, reading-back
+--     count-back, route-back, reading-back
 -- Assumes nothing.
 use mathlib.Core.Bool.{Bool, true, false, cond}
 use mathlib.Core.List.{List, _++_}
@@ -12,7 +12,7 @@ use Rattle.refusal.specs.Limit.{Answer, gives, refused}
 use Rattle.frame.specs.Questions.{Contents}
 use Rattle.demand.specs.Route.{Finding, free, blocked}
 use Rattle.pack.proofs.Unpack.{tag-back, leg-back, low-back, Fits, refusal-back}
-use Rattle.stall.specs.Calls.{packedFilling, unpackedFilling, packedRoute, unpackedRoute, wrote, short, roomed, packedReading, unpackedReading}
+use Rattle.stall.specs.Calls.{packedCount, unpackedCount, packedRoute, unpackedRoute, wrote, short, roomed, packedReading, unpackedReading}
 use Rattle.numbers.specs.Numbers.{contentsNumbers, readNumbers, numbersIn, written}
 use Rattle.numbers.proofs.Back.{contents-back, numbers-count, numbers-few}
 
@@ -24,10 +24,10 @@ abbrev pub FitsFinding : Finding → Type 0
 FitsFinding free = Unit {0}
 FitsFinding (blocked m n) = (m < 2 ^ 16) × (n < 2 ^ 32)
 
-pub filling-back : (a : Answer ℕ) → Fits FitsCount a → unpackedFilling (packedFilling a) ≡ a
-unfolding unpackedFilling
-filling-back (gives n) h = rw (tag-back 0 0 0 n) (ap gives (low-back 0 0 0 n h))
-filling-back (refused n p) h = rw (tag-back 1 n 0 p) (refusal-back n p h)
+pub count-back : (a : Answer ℕ) → Fits FitsCount a → unpackedCount (packedCount a) ≡ a
+unfolding unpackedCount
+count-back (gives n) h = rw (tag-back 0 0 0 n) (ap gives (low-back 0 0 0 n h))
+count-back (refused n p) h = rw (tag-back 1 n 0 p) (refusal-back n p h)
 
 pub route-back : (a : Answer Finding) → Fits FitsFinding a → unpackedRoute (packedRoute a) ≡ a
 unfolding unpackedRoute

@@ -4,27 +4,64 @@ use frame::Reading;
 use layout::Header;
 use layout::Record;
 use route::RouteAnswer;
+use steps::Step;
 ghost use mathlib.Core.List.{_++_};
 ghost use mathlib.Core.Path.{_≡_};
 ghost use lib.ListN.{length};
 ghost use Rattle.refusal.specs.Limit.{gives};
 ghost use Rattle.frame.specs.Questions.{withRecord, noRecord, reading};
 ghost use Rattle.fill.specs.Fill.{filling, filledBytes};
+ghost use Rattle.steps.specs.Steps.{beginning, begunBytes, joining, joinedBytes, ending, saidStep};
 ghost use Rattle.demand.specs.Route.{routeAnswer};
 ghost use Rattle.demand.specs.Demand.{DemandOf};
 ghost use Rattle.numbers.specs.Numbers.{headerNumbers, recordNumbers, readNumbers, written};
 ghost use Rattle.numbers.specs.Inner.{Small};
-ghost use Rattle.stall.specs.Calls.{packedFilling, unpackedFilling, packedRoute, unpackedRoute, roomed, packedReading, unpackedReading};
+ghost use Rattle.stall.specs.Calls.{packedCount, unpackedCount, packedRoute, unpackedRoute, roomed, packedReading, unpackedReading};
 
 // The fill. The answer is the number of filled cells, with 0 in the top byte; or 1 in the top byte, the limit's number
 // in the next, and the place in the low 32 bits.
 #[no_mangle]
 pub extern "C" fn stall_fill(file: &[u8], map: &mut [u8]) -> u64
-    ensures { λ r. ⌜ (r ≡ packedFilling (filling (now (file .entry)) (now (map .entry)))) × (unpackedFilling r ≡ filling (now (file .entry)) (now (map .entry))) × (now (map .exit) ≡ filledBytes (now (file .entry)) (now (map .entry))) ⌝ }
+    ensures { λ r. ⌜ (r ≡ packedCount (filling (now (file .entry)) (now (map .entry)))) × (unpackedCount r ≡ filling (now (file .entry)) (now (map .entry))) × (now (map .exit) ≡ filledBytes (now (file .entry)) (now (map .entry))) ⌝ }
 {
     match fill::fill(file, map) {
         Filling::Filled(n) => pack::pack(0, 0, 0, n),
         Filling::Refused(limit) => pack::pack_limit(limit),
+    }
+}
+
+// Begins a fill in steps: the map is emptied. The answer is the number of records, packed as the fill's count is.
+#[no_mangle]
+pub extern "C" fn stall_fill_begin(file: &[u8], map: &mut [u8]) -> u64
+    ensures { λ r. ⌜ (r ≡ packedCount (beginning (now (file .entry)) (now (map .entry)))) × (unpackedCount r ≡ beginning (now (file .entry)) (now (map .entry))) × (now (map .exit) ≡ begunBytes (now (file .entry)) (now (map .entry))) ⌝ }
+{
+    pack_step(steps::begin(file, map))
+}
+
+// A step of a fill: the cells of `count` records from number `first` on join the map. The answer is how many of these the
+// file has.
+#[no_mangle]
+pub extern "C" fn stall_fill_some(file: &[u8], map: &mut [u8], first: usize, count: usize) -> u64
+    ensures { λ r. ⌜ (r ≡ packedCount (joining (now (file .entry)) (now (map .entry)) first count)) × (unpackedCount r ≡ joining (now (file .entry)) (now (map .entry)) first count) × (now (map .exit) ≡ joinedBytes (now (file .entry)) (now (map .entry)) first count) ⌝ }
+{
+    pack_step(steps::some(file, map, first, count))
+}
+
+// Ends a fill in steps. The answer is the number of filled cells.
+#[no_mangle]
+pub extern "C" fn stall_fill_end(file: &[u8], map: &[u8]) -> u64
+    ensures { λ r. ⌜ (r ≡ packedCount (ending (now (file .entry)) (now (map .entry)))) × (unpackedCount r ≡ ending (now (file .entry)) (now (map .entry))) ⌝ }
+{
+    pack_step(steps::end(file, map))
+}
+
+// A step's answer, packed.
+fn pack_step(step: Step) -> u64
+    ensures { λ r. ⌜ r ≡ packedCount (saidStep step) ⌝ }
+{
+    match step {
+        Step::Done(n) => pack::pack(0, 0, 0, n),
+        Step::Refused(limit) => pack::pack_limit(limit),
     }
 }
 

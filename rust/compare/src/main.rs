@@ -46,9 +46,10 @@ fn main() -> ExitCode {
         }
     }
     println!(
-        "compare: {} fills ({} accepted), {} routes ({} free, {} blocked), {} readings, {} failed",
+        "compare: {} fills ({} accepted), {} fills in steps, {} routes ({} free, {} blocked), {} readings, {} failed",
         tally.fills,
         tally.accepted,
+        tally.steps,
         tally.routes,
         tally.free,
         tally.blocked,
@@ -81,6 +82,20 @@ fn frame(tally: &mut Tally, seed: u64) {
     let map = tally.fill(&mut random, &file, longer);
     for length in [shorter, bytes - 1] {
         tally.fill(&mut random, &file, length);
+    }
+    for length in [longer, shorter] {
+        tally.whole_in_steps(&mut random, &file, length);
+        let first = random.below(frame.triangles.len() + 2);
+        let count = [0, 1, random.below(frame.triangles.len() + 2), usize::MAX][random.below(4)];
+        let part = frame.part(first, count);
+        let has = part.triangles.len();
+        tally.one_step(
+            &mut random,
+            &file,
+            &part.write(),
+            (first, count, has),
+            length,
+        );
     }
     for _ in 0..if large { 3 } else { 7 } {
         let numbers = scene::route(&mut random, &frame);

@@ -6,6 +6,7 @@ use independent::{Header, Record};
 pub type Point = [i64; 3];
 
 /// A frame before it is written.
+#[derive(Clone)]
 pub struct Frame {
     pub cells: [i64; 3],
     pub edge: i64,
@@ -28,6 +29,15 @@ impl Frame {
 
     pub fn map_bytes(&self) -> usize {
         (self.cells.iter().product::<i64>() as usize).div_ceil(8)
+    }
+
+    /// The same with only the triangles of these records, of those that there are.
+    pub fn part(&self, first: usize, count: usize) -> Frame {
+        let triangles = self.triangles.iter().skip(first).take(count);
+        Frame {
+            triangles: triangles.cloned().collect(),
+            ..self.clone()
+        }
     }
 
     /// The far end of the grid on an axis.

@@ -7,6 +7,7 @@ use crate::random::Random;
 pub struct Tally {
     pub fills: usize,
     pub accepted: usize,
+    pub steps: usize,
     pub routes: usize,
     pub free: usize,
     pub blocked: usize,
@@ -49,6 +50,79 @@ impl Tally {
         }
         self.accepted += usize::from(answer.is_ok());
         map
+    }
+
+    /// The library fills in steps what the other fills at once: into a buffer with any contents, ranges of records in any
+    /// order, some of them twice, some beyond the last.
+    pub fn whole_in_steps(&mut self, random: &mut Random, file: &[u8], length: usize) {
+        self.steps += 1;
+        let before = random.bytes(length);
+        let (mut map, mut apart_map) = (before.clone(), before);
+        let apart = independent::fill(file, &mut apart_map);
+        let answer = stall::fill_begin(file, &mut map).and_then(|count| {
+            let mut ranges = vec![(random.below(count + 2), random.below(count + 2))];
+            let mut first = 0;
+            while first < count {
+                let n = 1 + random.below(count);
+                ranges.insert(random.below(ranges.len() + 1), (first, n));
+                first += n;
+            }
+            for (first, n) in ranges {
+                stall::fill_some(file, &mut map, first, n)?;
+            }
+            stall::fill_end(file, &map)
+        });
+        self.step("whole fill", file, answer, &map, apart, &apart_map);
+    }
+
+    /// One range of records joins a buffer with any contents. `part` is the file that has these records alone, and `has` is
+    /// how many they are.
+    pub fn one_step(
+        &mut self,
+        random: &mut Random,
+        file: &[u8],
+        part: &[u8],
+        (first, count, has): (usize, usize, usize),
+        length: usize,
+    ) {
+        self.steps += 1;
+        let before = random.bytes(length);
+        let (mut map, mut added) = (before.clone(), vec![0; length]);
+        // a file is refused for any of its records
+        let apart = match independent::fill(file, &mut vec![0; length]) {
+            Ok(_) => independent::fill(part, &mut added).map(|_| has),
+            Err(refusal) => Err(refusal),
+        };
+        let wanted: Vec<u8> = before.iter().zip(&added).map(|(a, b)| a | b).collect();
+        let answer = stall::fill_some(file, &mut map, first, count);
+        self.step("step", file, answer, &map, apart, &wanted);
+    }
+
+    fn step(
+        &mut self,
+        call: &str,
+        file: &[u8],
+        answer: Result<usize, stall::Refusal>,
+        map: &[u8],
+        apart: Result<usize, independent::Refusal>,
+        wanted: &[u8],
+    ) {
+        let answer = answer.map_err(|refusal| (u32::from(refusal.number), refusal.place as usize));
+        let apart = apart.map_err(|refusal| (refusal.number, refusal.place));
+        if answer != apart || map != wanted {
+            let first = map.iter().zip(wanted).position(|(a, b)| a != b);
+            let lent = format!(
+                "buffer of {} bytes, first differing byte {first:?}",
+                map.len()
+            );
+            self.differ(
+                call,
+                file,
+                &lent,
+                &format!("{answer:?}"),
+                &format!("{apart:?}"),
+            );
+        }
     }
 
     /// Both test a route on a map.

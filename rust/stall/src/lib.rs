@@ -88,21 +88,31 @@ pub enum NotRead {
 /// and what its pointers must be.
 pub mod library {
     extern "C" {
-        pub fn stall_fill(file: *const u8, file_len: usize, map: *mut u8, map_len: usize) -> u64;
+        pub fn stall_fill(file: *const u8, file_len: u64, map: *mut u8, map_len: u64) -> u64;
+        pub fn stall_fill_begin(file: *const u8, file_len: u64, map: *mut u8, map_len: u64) -> u64;
+        pub fn stall_fill_some(
+            file: *const u8,
+            file_len: u64,
+            map: *mut u8,
+            map_len: u64,
+            first: u64,
+            count: u64,
+        ) -> u64;
+        pub fn stall_fill_end(file: *const u8, file_len: u64, map: *const u8, map_len: u64) -> u64;
         pub fn stall_route(
             file: *const u8,
-            file_len: usize,
+            file_len: u64,
             map: *const u8,
-            map_len: usize,
+            map_len: u64,
             numbers: *const i16,
-            numbers_len: usize,
+            numbers_len: u64,
         ) -> u64;
         pub fn stall_read(
             file: *const u8,
-            file_len: usize,
-            record: usize,
+            file_len: u64,
+            record: u64,
             out: *mut i32,
-            out_len: usize,
+            out_len: u64,
         ) -> u64;
     }
 }
@@ -110,12 +120,45 @@ pub mod library {
 /// Fills the map of a frame file, and gives the number of filled cells. Bytes behind the map keep their contents.
 pub fn fill(file: &[u8], map: &mut [u8]) -> Result<usize, Refusal> {
     // SAFETY: both slices are alive for the call, the one that is written overlaps nothing, and the library keeps neither.
-    let answer =
-        unsafe { library::stall_fill(file.as_ptr(), file.len(), map.as_mut_ptr(), map.len()) };
-    match tag(answer) {
-        0 => Ok(low(answer)),
-        _ => Err(refusal(answer)),
-    }
+    counted(unsafe { library::stall_fill(file.as_ptr(), long(file), map.as_mut_ptr(), long(map)) })
+}
+
+/// Begins a fill in steps: empties the map of a frame file, and gives the number of its records. With [`fill_some`] for
+/// every record, in any order, and then [`fill_end`], the map and the count are those of [`fill`].
+pub fn fill_begin(file: &[u8], map: &mut [u8]) -> Result<usize, Refusal> {
+    // SAFETY: as for the fill.
+    counted(unsafe {
+        library::stall_fill_begin(file.as_ptr(), long(file), map.as_mut_ptr(), long(map))
+    })
+}
+
+/// Fills the cells of `count` records from number `first` on, and leaves the other cells as they are. Gives how many of
+/// these records the file has. Each call asks the file its questions again, so that a range a call is cheaper than a
+/// record a call.
+pub fn fill_some(
+    file: &[u8],
+    map: &mut [u8],
+    first: usize,
+    count: usize,
+) -> Result<usize, Refusal> {
+    let (first, count) = (first as u64, count as u64);
+    // SAFETY: as for the fill.
+    counted(unsafe {
+        library::stall_fill_some(
+            file.as_ptr(),
+            long(file),
+            map.as_mut_ptr(),
+            long(map),
+            first,
+            count,
+        )
+    })
+}
+
+/// Ends a fill in steps: gives the number of filled cells.
+pub fn fill_end(file: &[u8], map: &[u8]) -> Result<usize, Refusal> {
+    // SAFETY: the slices are alive for the call, nothing is written, and the library keeps none.
+    counted(unsafe { library::stall_fill_end(file.as_ptr(), long(file), map.as_ptr(), long(map)) })
 }
 
 /// Tests a route on the map of a frame file. `numbers` holds x, y, z of each of 2 to 64 points.
@@ -124,11 +167,11 @@ pub fn test_route(file: &[u8], map: &[u8], numbers: &[i16]) -> Result<Route, Ref
     let answer = unsafe {
         library::stall_route(
             file.as_ptr(),
-            file.len(),
+            long(file),
             map.as_ptr(),
-            map.len(),
+            long(map),
             numbers.as_ptr(),
-            numbers.len(),
+            long(numbers),
         )
     };
     match tag(answer) {
@@ -171,10 +214,10 @@ pub fn read_numbers(file: &[u8], record: usize, out: &mut [i32]) -> Result<usize
     let answer = unsafe {
         library::stall_read(
             file.as_ptr(),
-            file.len(),
-            record,
+            long(file),
+            record as u64,
             out.as_mut_ptr(),
-            out.len(),
+            long(out),
         )
     };
     match tag(answer) {
@@ -183,6 +226,19 @@ pub fn read_numbers(file: &[u8], record: usize, out: &mut [i32]) -> Result<usize
             wanted: low(answer),
         }),
         _ => Err(NotRead::Refused(refusal(answer))),
+    }
+}
+
+/// A slice's length, as the library takes it: 64 bits on every machine.
+fn long<T>(slice: &[T]) -> u64 {
+    slice.len() as u64
+}
+
+/// An answer that is a count or a refusal.
+fn counted(answer: u64) -> Result<usize, Refusal> {
+    match tag(answer) {
+        0 => Ok(low(answer)),
+        _ => Err(refusal(answer)),
     }
 }
 

@@ -1,6 +1,9 @@
 //! Each answer of the library comes through the wrapper as its own case.
 
-use stall::{fill, read, read_numbers, test_route, Header, NotRead, Record, Refusal, Route};
+use stall::{
+    fill, fill_begin, fill_end, fill_some, read, read_numbers, test_route, Header, NotRead, Record,
+    Refusal, Route,
+};
 
 /// Two cells a side of edge 10 from (0, 0, 0), and one triangle: (1, 20, 5), (20, 20, 5), (20, 1, 5).
 const FILE: [u8; 28] = [
@@ -20,6 +23,26 @@ fn fills() {
         place: 0,
     };
     assert_eq!(fill(&FILE, &mut []), Err(refusal));
+}
+
+#[test]
+fn fills_in_steps() {
+    let mut map = [0xaa; 2];
+    assert_eq!(fill_begin(&FILE, &mut map), Ok(1));
+    assert_eq!(map, [0x00, 0xaa]);
+    assert_eq!(fill_some(&FILE, &mut map, 1, usize::MAX), Ok(0));
+    assert_eq!(fill_end(&FILE, &map), Ok(0));
+    map[0] = 0x80;
+    assert_eq!(fill_some(&FILE, &mut map, 0, usize::MAX), Ok(1));
+    assert_eq!(map, [0xf0, 0xaa]);
+    assert_eq!(fill_end(&FILE, &map), Ok(4));
+    let refusal = Refusal {
+        number: 8,
+        place: 0,
+    };
+    assert_eq!(fill_begin(&FILE, &mut []), Err(refusal));
+    assert_eq!(fill_some(&FILE, &mut [], 0, 1), Err(refusal));
+    assert_eq!(fill_end(&FILE, &[]), Err(refusal));
 }
 
 #[test]

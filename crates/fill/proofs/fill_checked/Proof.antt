@@ -12,7 +12,9 @@ use Rattle.frame.specs.File.{headerOf}
 use Rattle.frame.proofs.Accepted.{AcceptedFile, accepted, header-is}
 use Rattle.map.specs.Map.{mapLength, isFilled, countBelow}
 use Rattle.fill.specs.Fill.{gridOf, filledIn}
-use Rattle.fill.specs.Inner.{AddsObstacles}
+use Rattle.fill.specs.Inner.{AddsRecords}
+use Rattle.triangles.specs.Add.{Adds}
+use Rattle.fill.proofs.Triangles.{adds-all}
 use Rattle.fill.proofs.Answers.{fill-short, fill-passed, fill-bytes, fill-count}
 use Rattle.fill.proofs.fill_checked.Statement.{statement}
 use Rattle.fill.proofs.fill_checked.Tie as tie
@@ -35,15 +37,15 @@ returns c =
     (sym said, sym left)
 
 -- the cleared map, to which the triangles were added
-added : (c : tie.After-fill-triangles) → let m = c .before .before .before .before .before .before .before in let s = start m in
+added : (c : tie.After-fill-records) → let m = c .before .before .before .before .before .before .before in let s = start m in
     let len = mapLength (cellCount (s .args .header .grid)) in
-    AddsObstacles (s .args .file .now) (replicate len 0 ++ drop len (s .args .map .now)) (c .fill-triangles .last .1 .1 .0)
+    AddsRecords (s .args .file .now) 0 (s .args .header .count) (replicate len 0 ++ drop len (s .args .map .now)) (c .fill-records .last .1 .1 .1 .1 .0)
 added c =
     let k = c .before .before .before .before in
     let m = k .before .before .before in
     let s = start m in
-    subst (λ (l : List ℕ). AddsObstacles (s .args .file .now) l (c .fill-triangles .last .1 .1 .0))
-    (k .clear .ensures ∙ ap (λ (n : ℕ). replicate n 0 ++ drop n (s .args .map .now)) (long m)) (c .fill-triangles .ensures)
+    subst (λ (l : List ℕ). AddsRecords (s .args .file .now) 0 (s .args .header .count) l (c .fill-records .last .1 .1 .1 .1 .0))
+    (k .clear .ensures ∙ ap (λ (n : ℕ). replicate n 0 ++ drop n (s .args .map .now)) (long m)) (c .fill-records .ensures)
 
 returns-2 : tie.Need-returns-2
 returns-2 c =
@@ -55,12 +57,12 @@ returns-2 c =
     let old = s .args .map .now in
     let room = rw (long m) at (e .if1 .left) in
     let (said, left) = fill-passed file old (s .args .header) (s .pre) room in
-    let new = f .fill-triangles .last .1 .1 .0 in
+    let new = f .fill-records .last .1 .1 .1 .1 .0 in
     let is : s .args .header ≡ headerOf file = sym (header-is file (s .args .header) (s .pre)) in
     let cells = cellCount (gridOf file) in
     let here : mapLength cells ≤ length old = subst (λ (h : Header). mapLength (cellCount (h .grid)) ≤ length old) is room in
-    let adds : AddsObstacles file (replicate (mapLength cells) 0 ++ drop (mapLength cells) old) new =
-    subst (λ (h : Header). let n = mapLength (cellCount (h .grid)) in AddsObstacles file (replicate n 0 ++ drop n old) new) is (added f) in (
+    let adds : Adds cells (filledIn file) (replicate (mapLength cells) 0 ++ drop (mapLength cells) old) new =
+    adds-all file (subst (λ (h : Header). let n = mapLength (cellCount (h .grid)) in AddsRecords file 0 (h .count) (replicate n 0 ++ drop n old) new) is (added f)) in (
       ap gives (c .count .ensures ∙ ap (countBelow (isFilled new)) (m .before .cell-count .ensures .0 ∙ ap (λ (h : Header). cellCount (h .grid)) is) ∙ fill-count (filledIn file) cells old new here adds) ∙ sym said,
       fill-bytes (filledIn file) cells old new here adds (λ i. omega (arith, m .before .before .slice-known .given i)) (λ i. omega (arith, c .before .before .slice-known3 .given i)) ∙ sym left,
     )

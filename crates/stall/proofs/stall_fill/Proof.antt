@@ -2,8 +2,9 @@
 use borrow.Author.Needs.{needs}
 use mathlib.Core.Path.{sym, ap, _∙_}
 use Rattle.fill.specs.Fill.{saidFilling}
-use Rattle.stall.specs.Calls.{packedFilling}
-use Rattle.stall.proofs.Answers.{filled}
+use Rattle.stall.specs.Calls.{packedCount}
+use Rattle.stall.proofs.Answers.{counted}
+use Rattle.stall.proofs.Fitting.{filling-fits}
 use Rattle.stall.proofs.stall_fill.Statement.{statement}
 use Rattle.stall.proofs.stall_fill.Tie as tie
 
@@ -15,16 +16,16 @@ returns c =
     let arm = c .before .before in
     let k = called (arm .before .before) in
     let a = k .before .before .before .before .args in
-    let e = c .pack .ensures ∙ ap packedFilling (sym (ap saidFilling (arm .n .given .1)) ∙ k .fill .ensures .0) in
-    (e, filled (a .file .now) (a .map .now) e, k .fill .ensures .1)
+    let e = c .pack .ensures ∙ ap packedCount (sym (ap saidFilling (arm .n .given .1)) ∙ k .fill .ensures .0) in
+    (e, counted (filling-fits (a .file .now) (a .map .now)) e, k .fill .ensures .1)
 
 returns-2 : tie.Need-returns-2
 returns-2 c =
     let arm = c .before .before in
     let k = called (arm .before .before) in
     let a = k .before .before .before .before .args in
-    let e = c .pack-limit .ensures ∙ ap packedFilling (sym (ap saidFilling (arm .limit .given .1)) ∙ k .fill .ensures .0) in
-    (e, filled (a .file .now) (a .map .now) e, k .fill .ensures .1)
+    let e = c .pack-limit .ensures ∙ ap packedCount (sym (ap saidFilling (arm .limit .given .1)) ∙ k .fill .ensures .0) in
+    (e, counted (filling-fits (a .file .now) (a .map .now)) e, k .fill .ensures .1)
 
 pub stall-fill-spec : {M : Type 1} → statement M
 stall-fill-spec =
