@@ -1,4 +1,4 @@
-// Runs the cases that standard input has as text (see case_text), line by line, and prints a line for each question.
+// Runs the cases that standard input has as text (see text), line by line, and prints a line for each question.
 //     given: HEX                  the frame file is these bytes
 //     again 4094: HEX             these bytes, 4,094 times over, stand behind it
 //     noise 65520:                so many pseudo-random bytes, of records of kind 0, stand behind it
@@ -11,6 +11,8 @@
 //     digest NAME: ROUTE, ROUTE   fills the buffer, and prints digests of it and of the routes' answers
 // A line goes by its first letter, and one that begins with # is a comment. File and buffer stay as they are until the
 // next line that changes them: a fill leaves its map for the routes behind it.
+mod text;
+
 use bytes::scan::find;
 use libc::STDIN_FILENO;
 use points::Point;
@@ -54,30 +56,30 @@ fn run_lines(text: &[u8], file: &mut [u8], map: &mut [u8]) {
 
 // Runs a line: it changes the file or the buffer, or puts a question.
 fn run_line(line: &[u8], file: &mut [u8], map: &mut [u8], held: Held) -> Held {
-    let name = case_text::behind(case_text::before(line, b':'), b' ');
-    let values = case_text::behind(line, b':');
-    match case_text::letter(line) {
+    let name = text::behind(text::before(line, b':'), b' ');
+    let values = text::behind(line, b':');
+    match text::letter(line) {
         b'#' => held,
         b'g' => Held {
-            file: case_text::put_bytes(values, 1, file, 0),
+            file: text::put_bytes(values, 1, file, 0),
             map: held.map,
         },
         b'a' => Held {
-            file: case_text::put_bytes(values, case_text::number(name), file, held.file),
+            file: text::put_bytes(values, text::number(name), file, held.file),
             map: held.map,
         },
         b'n' => Held {
-            file: put_noise(case_text::number(name), file, held.file),
+            file: put_noise(text::number(name), file, held.file),
             map: held.map,
         },
         b'b' => Held {
             file: held.file,
-            map: case_text::put_bytes(values, case_text::number(name), map, 0),
+            map: text::put_bytes(values, text::number(name), map, 0),
         },
         letter => {
             report::begin(name);
-            let lent = case_text::first_mut(map, held.map);
-            ask(letter, values, case_text::first(file, held.file), lent);
+            let lent = text::first_mut(map, held.map);
+            ask(letter, values, text::first(file, held.file), lent);
             report::end();
             held
         }
@@ -87,7 +89,7 @@ fn run_line(line: &[u8], file: &mut [u8], map: &mut [u8], held: Held) -> Held {
 // Puts a question, and prints the answer.
 fn ask(letter: u8, values: &[u8], file: &[u8], map: &mut [u8]) {
     match letter {
-        b'r' => report::reading(frame::read(file, case_text::number(values))),
+        b'r' => report::reading(frame::read(file, text::number(values))),
         b't' => report::route(answer(values, file, map)),
         b'p' => ask_points(values, file, map),
         _ => ask_fill(letter, values, file, map),
@@ -110,15 +112,15 @@ fn ask_fill(letter: u8, values: &[u8], file: &[u8], map: &mut [u8]) {
 // What the test of a route of some numbers answers.
 fn answer(values: &[u8], file: &[u8], map: &[u8]) -> RouteAnswer {
     let mut numbers = [0i16; 384];
-    let count = case_text::put_numbers(values, &mut numbers);
-    route::test_route(file, map, case_text::first_numbers(&numbers, count))
+    let count = text::put_numbers(values, &mut numbers);
+    route::test_route(file, map, text::first_numbers(&numbers, count))
 }
 
 // Tests the route of the first of 128 points by value.
 fn ask_points(values: &[u8], file: &[u8], map: &[u8]) {
-    let count = case_text::number(case_text::before(values, b','));
+    let count = text::number(text::before(values, b','));
     let mut numbers = [0i16; 384];
-    case_text::put_numbers(case_text::behind(values, b','), &mut numbers);
+    text::put_numbers(text::behind(values, b','), &mut numbers);
     report::route(points::test_first_points(file, map, points_of(&numbers), count));
 }
 
@@ -146,7 +148,7 @@ fn point_at(numbers: &[i16; 384], i: usize) -> Point
 
 // Puts pseudo-random bytes into the file from `at` on, as far as there is room, and answers where they end.
 fn put_noise(count: usize, file: &mut [u8], at: usize) -> usize {
-    let stop = case_text::stop(at, count, file.len());
+    let stop = text::stop(at, count, file.len());
     let mut state: u64 = 1;
     let mut end = at;
     while end < stop {

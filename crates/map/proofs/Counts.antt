@@ -2,7 +2,7 @@
 --     count-more     the count of one number more
 --     count-byte     of the cells of one byte more
 --     ones-byte      byte q as a number
---     ones-next      byte q + j
+--     ones-to        the same end, by another name
 --     ones-join      bytes, and bytes behind them, as one number
 --     count-most     no count is above the numbers counted
 --     count-same     two properties that agree have one count
@@ -82,10 +82,8 @@ module _ (s : List ℕ) (q : ℕ) (small : getD s q 0 < 256) where
 pub ones-byte : (s : List ℕ) (q : ℕ) {x : ℕ} → (x ≡ getD s q 0) × (x < 256) → OnesOf s q (q + 1) x
 ones-byte s q h = record { counted = rw (h .0) (count-byte s q (rw (h .0) at (h .1))) }
 
-pub ones-next : (s : List ℕ) (q j : ℕ) {x : ℕ} → (x ≡ getD s (q + j) 0) × (x < 256) → OnesOf s (q + j) (q + suc j) x
-ones-next s q j h =
-    let e : q + suc j ≡ q + j + 1 = omega arith in
-    rw e (ones-byte s (q + j) h)
+pub ones-to : {s : List ℕ} {from to x : ℕ} (end : ℕ) → to ≡ end → OnesOf s from to x → OnesOf s from end x
+ones-to end e o = rw e at o
 
 pub ones-join : (k : ℕ) {s : List ℕ} {from mid to a b : ℕ} → a < 2 ^ k → OnesOf s from mid a → OnesOf s mid to b → OnesOf s from to (b * 2 ^ k + a)
 ones-join k {a = a} {b = b} small first second = record { counted = omega (arith, ones-cat k b a small) }

@@ -119,11 +119,19 @@ fn word(map: &[u8], i: usize) -> u64
     requires { ⌜ i + 8 ≤ length (now map) ⌝ }
     ensures { λ r. ⌜ OnesOf (now (map .entry)) i (i + 8) r ⌝ }
 {
-    let a = byte(map, i + 1) * 256 + byte(map, i);
-    let b = byte(map, i + 3) * 256 + byte(map, i + 2);
-    let c = byte(map, i + 5) * 256 + byte(map, i + 4);
-    let d = byte(map, i + 7) * 256 + byte(map, i + 6);
+    let a = pair(map, i);
+    let b = pair(map, i + 2);
+    let c = pair(map, i + 4);
+    let d = pair(map, i + 6);
     ((d * 65536 + c) * 65536 + b) * 65536 + a
+}
+
+// Two bytes, in the same way.
+fn pair(map: &[u8], i: usize) -> u64
+    requires { ⌜ i + 2 ≤ length (now map) ⌝ }
+    ensures { λ r. ⌜ OnesOf (now (map .entry)) i (i + 2) r × (r < 65536) ⌝ }
+{
+    byte(map, i + 1) * 256 + byte(map, i)
 }
 
 // Byte i, as a number to compute with.

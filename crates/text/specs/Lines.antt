@@ -17,13 +17,17 @@ abbrev pub refusedWord : List ℕ
 refusedWord = 82 ∷ 69 ∷ 70 ∷ 85 ∷ 83 ∷ 69 ∷ 68 ∷ 32 ∷ []
 
 -- ---- lines
+-- A word, a number, a second word and a second number
+abbrev pub pairLine : (word : List ℕ) (a : ℕ) (second : List ℕ) (b : ℕ) → List ℕ
+pairLine word a second b = word ++ decimal a ++ second ++ decimal b ++ lineFeed
+
 -- "FILLED count OF cells"
 abbrev pub filledLine : (count cells : ℕ) → List ℕ
-filledLine count cells = filledWord ++ decimal count ++ ofWord ++ decimal cells ++ lineFeed
+filledLine count cells = pairLine filledWord count ofWord cells
 
 -- "REFUSED number place"
 abbrev pub refusedLine : (number place : ℕ) → List ℕ
-refusedLine number place = refusedWord ++ decimal number ++ space ++ decimal place ++ lineFeed
+refusedLine number place = pairLine refusedWord number space place
 
 -- "i j k"
 abbrev pub placeLine : (i j k : ℕ) → List ℕ

@@ -5,18 +5,14 @@ ghost use Prim.Native.Nat.{_+_, _<_, _≤_};
 ghost use lib.ListN.{length};
 ghost use Rattle.text.specs.Text.{decimal};
 ghost use Rattle.text.specs.Inner.{Puts};
-ghost use Rattle.text.specs.Lines.{filledLine, refusedLine, placeLine, firstMost, lineMost};
+ghost use Rattle.text.specs.Lines.{pairLine, filledLine, refusedLine, placeLine, firstMost, lineMost};
 
 // Puts "FILLED count OF cells" at the start.
 pub fn put_filled(out: &mut [u8], count: usize, cells: usize) -> usize
     requires { ⌜ firstMost ≤ length (now out) ⌝ }
     ensures { λ r. ⌜ Puts (now (out .entry)) 0 (filledLine count cells) (now (out .exit)) r ⌝ }
 {
-    let first = put_word(out, 0, b"FILLED ");
-    let behind_count = put_number(out, first, count);
-    let second = put_word(out, behind_count, b" OF ");
-    let behind_cells = put_number(out, second, cells);
-    put_byte(out, behind_cells, 10)
+    put_pair(out, b"FILLED ", count, b" OF ", cells)
 }
 
 // Puts "REFUSED number place" at the start.
@@ -24,11 +20,19 @@ pub fn put_refused(out: &mut [u8], number: usize, place: usize) -> usize
     requires { ⌜ firstMost ≤ length (now out) ⌝ }
     ensures { λ r. ⌜ Puts (now (out .entry)) 0 (refusedLine number place) (now (out .exit)) r ⌝ }
 {
-    let first = put_word(out, 0, b"REFUSED ");
-    let behind_number = put_number(out, first, number);
-    let second = put_byte(out, behind_number, 32);
-    let behind_place = put_number(out, second, place);
-    put_byte(out, behind_place, 10)
+    put_pair(out, b"REFUSED ", number, b" ", place)
+}
+
+// Puts a line of a word, a number, a second word and a second number at the start. A number has at most 20 digits.
+fn put_pair(out: &mut [u8], word: &[u8], a: usize, second: &[u8], b: usize) -> usize
+    requires { ⌜ (length (now word) ≤ 8) × (length (now second) ≤ 8) × (firstMost ≤ length (now out)) ⌝ }
+    ensures { λ r. ⌜ Puts (now (out .entry)) 0 (pairLine (now (word .entry)) a (now (second .entry)) b) (now (out .exit)) r ⌝ }
+{
+    let first = put_word(out, 0, word);
+    let behind_a = put_number(out, first, a);
+    let next = put_word(out, behind_a, second);
+    let behind_b = put_number(out, next, b);
+    put_byte(out, behind_b, 10)
 }
 
 // Puts "i j k".

@@ -1,52 +1,32 @@
--- `map::word` meets its contract: the ones of its bytes, joined pair by pair. Assumes nothing.
+-- `map::word` meets its contract: the ones of four pairs of bytes, joined. Assumes nothing.
+use Prim.Native.Nat.{_+_}
 use native.Mathlib.Omega.{arith}
-use Rattle.map.proofs.Counts.{ones-byte, ones-next, ones-join}
+use Rattle.map.proofs.Counts.{ones-to, ones-join}
 use Rattle.map.proofs.word.Statement.{statement}
 use Rattle.map.proofs.word.Tie as tie
 
 returns : tie.Need-returns
 returns c =
-    let c₆ = c .before .before in
-    let c₄ = c₆ .before .before in
-    let c₂ = c₄ .before .before in
-    let start = c₂ .before .before .before in
-    let s = start .args .map .now in
-    let q = start .args .i in
-    ones-join 16 (omega arith)
-    (ones-join 8 (omega arith) (ones-byte s q (c₂ .byte2 .ensures)) (ones-next s q 1 (c₂ .before .byte .ensures)))
-    (ones-join 16 (omega arith)
-    (ones-join 8 (omega arith) (ones-next s q 2 (c₄ .byte4 .ensures)) (ones-next s q 3 (c₄ .before .byte3 .ensures)))
-    (ones-join 16 (omega arith)
-    (ones-join 8 (omega arith) (ones-next s q 4 (c₆ .byte6 .ensures)) (ones-next s q 5 (c₆ .before .byte5 .ensures)))
-    (ones-join 8 (omega arith) (ones-next s q 6 (c .byte8 .ensures)) (ones-next s q 7 (c .before .byte7 .ensures)))))
+    let p3 = c .before in
+    let p2 = p3 .before in
+    let p1 = p2 .before in
+    let i = p1 .before .before .args .i in
+    let fourth = ones-to (i + 8) (omega arith) (c .pair4 .ensures .0) in
+    let third = ones-to (i + 6) (omega arith) (p3 .pair3 .ensures .0) in
+    let second = ones-to (i + 4) (omega arith) (p2 .pair2 .ensures .0) in
+    ones-join 16 (omega arith) (p1 .pair .ensures .0) (ones-join 16 (omega arith) second (ones-join 16 (omega arith) third fourth))
 
 pub word-spec : {M : Type 1} → statement M
 word-spec =
     tie.close
     (tie.spec
-    (λ c. omega arith)
     (λ c κs. omega arith)
     (λ c. omega arith)
     (λ c κs. omega arith)
     (λ c. omega arith)
-    (λ c. omega arith)
     (λ c κs. omega arith)
     (λ c. omega arith)
-    (λ c. omega arith)
     (λ c κs. omega arith)
-    (λ c. omega arith)
-    (λ c. omega arith)
-    (λ c κs. omega arith)
-    (λ c. omega arith)
-    (λ c. omega arith)
-    (λ c κs. omega arith)
-    (λ c. omega arith)
-    (λ c. omega arith)
-    (λ c κs. omega arith)
-    (λ c. omega arith)
-    (λ c. omega arith)
-    (λ c κs. omega arith)
-    (λ c. omega arith)
     (λ c. omega arith)
     (λ c. omega arith)
     (λ c. omega arith)

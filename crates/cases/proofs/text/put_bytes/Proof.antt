@@ -1,10 +1,10 @@
--- `case_text::put_bytes` meets its contract: the loop ends, and the slice keeps its length. Assumes nothing.
+-- `cases::text::put_bytes` meets its contract: the loop ends, and the slice keeps its length. Assumes nothing.
 use borrow.Author.Needs.{needs}
 use mathlib.Core.Path.{_≡_}
 use Prim.Native.Nat.{_-_, _≤_}
 use lib.ListN.{length}
-use Rattle.case_text.proofs.put_bytes.Statement.{statement}
-use Rattle.case_text.proofs.put_bytes.Tie as tie
+use Rattle.cases.proofs.text.put_bytes.Statement.{statement}
+use Rattle.cases.proofs.text.put_bytes.Tie as tie
 
 abbrev Inv-loop : tie.InvT-loop
 Inv-loop digits times out₀ at end₀ i₀ out end i = (i ≤ times) × (length out ≡ length out₀)

@@ -1,10 +1,10 @@
--- `case_text::put_numbers` meets its contract: the loop stays in the text, and the slice keeps its length. Assumes nothing.
+-- `cases::text::put_numbers` meets its contract: the loop stays in the text, and the slice keeps its length. Assumes nothing.
 use borrow.Author.Needs.{needs}
 use mathlib.Core.Path.{_≡_}
 use Prim.Native.Nat.{_-_}
 use lib.ListN.{length}
-use Rattle.case_text.proofs.put_numbers.Statement.{statement}
-use Rattle.case_text.proofs.put_numbers.Tie as tie
+use Rattle.cases.proofs.text.put_numbers.Statement.{statement}
+use Rattle.cases.proofs.text.put_numbers.Tie as tie
 
 abbrev Inv-loop : tie.InvT-loop
 Inv-loop text out₀ count₀ at₀ out count at = length out ≡ length out₀

@@ -1,11 +1,11 @@
--- `case_text::repeat` meets its contract: the loop stays in the slice. Assumes nothing.
+-- `cases::text::repeat` meets its contract: the loop stays in the slice. Assumes nothing.
 use borrow.Author.Needs.{needs}
 use mathlib.Core.Path.{_≡_}
 use Prim.Native.Nat.{_-_}
 use native.Mathlib.Omega.{arith}
 use lib.ListN.{length, length-set}
-use Rattle.case_text.proofs.repeat.Statement.{statement}
-use Rattle.case_text.proofs.repeat.Tie as tie
+use Rattle.cases.proofs.text.repeat.Statement.{statement}
+use Rattle.cases.proofs.text.repeat.Tie as tie
 
 abbrev Inv-loop : tie.InvT-loop
 Inv-loop value times out₀ at stop end₀ out end = length out ≡ length out₀

@@ -1,4 +1,4 @@
--- `case_text::negative` meets its contract: the difference fits. Assumes nothing.
+-- `cases::text::negative` meets its contract: the difference fits. Assumes nothing.
 use borrow.Author.Needs.{needs}
 use Prim.Native.Nat.{ℕ, _+_, _%_, _<_}
 use native.Mathlib.Omega.{arith}
@@ -7,8 +7,8 @@ use mir.Syntax.{w16}
 use mir.Val.{SFits}
 use Rattle.integers.proofs.Casts.{signed-is}
 use Rattle.integers.proofs.Omega.{zarith, -!, abs!, mag! }
-use Rattle.case_text.proofs.negative.Statement.{statement}
-use Rattle.case_text.proofs.negative.Tie as tie
+use Rattle.cases.proofs.text.negative.Statement.{statement}
+use Rattle.cases.proofs.text.negative.Tie as tie
 
 -- −1 − k, for k in the lower half
 fits : (k : ℕ) → k < 32768 → SFits w16 (negsuc 0 -ℤ pos k)

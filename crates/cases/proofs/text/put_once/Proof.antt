@@ -1,10 +1,10 @@
--- `case_text::put_once` meets its contract: the loop stays in the digits, and the slice keeps its length. Assumes nothing.
+-- `cases::text::put_once` meets its contract: the loop stays in the digits, and the slice keeps its length. Assumes nothing.
 use borrow.Author.Needs.{needs}
 use mathlib.Core.Path.{_≡_}
 use Prim.Native.Nat.{_-_, _≤_}
 use lib.ListN.{length}
-use Rattle.case_text.proofs.put_once.Statement.{statement}
-use Rattle.case_text.proofs.put_once.Tie as tie
+use Rattle.cases.proofs.text.put_once.Statement.{statement}
+use Rattle.cases.proofs.text.put_once.Tie as tie
 
 abbrev Inv-loop : tie.InvT-loop
 Inv-loop digits out₀ at n₀ i₀ out n i = (i ≤ length digits) × (length out ≡ length out₀)

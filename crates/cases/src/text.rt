@@ -6,18 +6,18 @@ use bytes::scan::find;
 ghost use Prim.Native.Nat.{_≤_, _<_};
 
 // The first letter of a line. An empty line is taken as a comment.
-pub fn letter(line: &[u8]) -> u8 {
+pub(crate) fn letter(line: &[u8]) -> u8 {
     if 0 < line.len() { line[0] } else { b'#' }
 }
 
 // What stands before the first `mark` of a text: all, where there is none.
-pub fn before(text: &[u8], mark: u8) -> &[u8] {
+pub(crate) fn before(text: &[u8], mark: u8) -> &[u8] {
     let end = find(text, 0, text.len(), mark);
     &text[0..end]
 }
 
 // What stands behind the first `mark` of a text: nothing, where there is none.
-pub fn behind(text: &[u8], mark: u8) -> &[u8] {
+pub(crate) fn behind(text: &[u8], mark: u8) -> &[u8] {
     let end = find(text, 0, text.len(), mark);
     let start = lesser(end + 1, text.len());
     &text[start..]
@@ -31,32 +31,32 @@ fn lesser(a: usize, b: usize) -> usize
 }
 
 // Where `count` elements from `at` on end, in a slice of `len`.
-pub fn stop(at: usize, count: usize, len: usize) -> usize
+pub(crate) fn stop(at: usize, count: usize, len: usize) -> usize
     ensures { λ r. ⌜ r ≤ len ⌝ }
 {
     lesser(std::num::wrapping_add_usize(at, count), len)
 }
 
 // The first n bytes of a slice, or all.
-pub fn first(s: &[u8], n: usize) -> &[u8] {
+pub(crate) fn first(s: &[u8], n: usize) -> &[u8] {
     let end = lesser(n, s.len());
     &s[0..end]
 }
 
 // The same, lent to be written.
-pub fn first_mut(s: &mut [u8], n: usize) -> &mut [u8] {
+pub(crate) fn first_mut(s: &mut [u8], n: usize) -> &mut [u8] {
     let end = lesser(n, s.len());
     &mut s[0..end]
 }
 
 // The first n numbers of a slice, or all.
-pub fn first_numbers(s: &[i16], n: usize) -> &[i16] {
+pub(crate) fn first_numbers(s: &[i16], n: usize) -> &[i16] {
     let end = lesser(n, s.len());
     &s[0..end]
 }
 
 // The number that the decimal digits of a text say, whatever stands between them.
-pub fn number(text: &[u8]) -> usize {
+pub(crate) fn number(text: &[u8]) -> usize {
     let mut n = 0;
     let mut i = 0;
     while i < text.len() {
@@ -87,7 +87,7 @@ fn digit(c: u8) -> usize
 }
 
 // Puts the bytes that hexadecimal digits say into `out` from `at` on, `times` times over, and answers where they end.
-pub fn put_bytes(digits: &[u8], times: usize, out: &mut [u8], at: usize) -> usize {
+pub(crate) fn put_bytes(digits: &[u8], times: usize, out: &mut [u8], at: usize) -> usize {
     let mut end = at;
     let mut i = 0;
     while i < times {
@@ -122,7 +122,7 @@ fn push(out: &mut [u8], n: usize, d: usize) -> usize {
 }
 
 // Puts the numbers of a text into `out`, as far as there is room, and answers how many they are.
-pub fn put_numbers(text: &[u8], out: &mut [i16]) -> usize {
+pub(crate) fn put_numbers(text: &[u8], out: &mut [i16]) -> usize {
     let mut count = 0;
     let mut at = 0;
     while at < text.len() {

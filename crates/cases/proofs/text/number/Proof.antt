@@ -1,9 +1,9 @@
--- `case_text::number` meets its contract: the loop stays in the text. Assumes nothing.
+-- `cases::text::number` meets its contract: the loop stays in the text. Assumes nothing.
 use borrow.Author.Needs.{needs}
 use Prim.Native.Nat.{_-_, _≤_}
 use lib.ListN.{length}
-use Rattle.case_text.proofs.number.Statement.{statement}
-use Rattle.case_text.proofs.number.Tie as tie
+use Rattle.cases.proofs.text.number.Statement.{statement}
+use Rattle.cases.proofs.text.number.Tie as tie
 
 abbrev Inv-loop : tie.InvT-loop
 Inv-loop text n₀ i₀ n i = i ≤ length text

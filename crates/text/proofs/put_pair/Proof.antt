@@ -1,4 +1,4 @@
--- `text::put_refused` meets its contract: a number has at most 20 digits. Assumes nothing.
+-- `text::put_pair` meets its contract: a number has at most 20 digits. Assumes nothing.
 use borrow.Author.Needs.{needs}
 use Prim.Native.Nat.{_≤_}
 use native.Mathlib.Omega.{arith}
@@ -6,11 +6,14 @@ use lib.ListN.{length}
 use Rattle.text.specs.Text.{decimal}
 use Rattle.text.proofs.Decimals.{decimal-most}
 use Rattle.text.proofs.Texts.{puts-more}
-use Rattle.text.proofs.put_refused.Statement.{statement}
-use Rattle.text.proofs.put_refused.Tie as tie
+use Rattle.text.proofs.put_pair.Statement.{statement}
+use Rattle.text.proofs.put_pair.Tie as tie
 
-most : (s : tie.Start) → (length (decimal (s .args .number)) ≤ 20) × (length (decimal (s .args .place)) ≤ 20)
-most s = (decimal-most (s .args .number) (search needs), decimal-most (s .args .place) (search needs))
+abbrev start : tie.After-put-word → tie.Start
+start c = c .before .before .before .before .before
+
+most : (c : tie.After-put-word) → let s = start c in (length (decimal (s .args .a)) ≤ 20) × (length (decimal (s .args .b)) ≤ 20)
+most c = let s = start c in (decimal-most (s .args .a) (search needs), decimal-most (s .args .b) (search needs))
 
 returns : tie.Need-returns
 returns c =
@@ -19,19 +22,18 @@ returns c =
     let p3 = p4 .before .before .before .before in
     let p2 = p3 .before .before .before .before in
     let p1 = p2 .before .before .before .before in
-    let s = p1 .before .before .before .before in
+    let s = start p1 in
     let room : 0 ≤ length (s .args .out .now) = omega arith in
-    puts-more room (puts-more room (puts-more room (puts-more room (p1 .put-word .ensures) (p2 .put-number .ensures)) (p3 .put-byte .ensures)) (p4 .put-number2 .ensures)) (p5 .put-byte2 .ensures)
+    puts-more room (puts-more room (puts-more room (puts-more room (p1 .put-word .ensures) (p2 .put-number .ensures)) (p3 .put-word2 .ensures)) (p4 .put-number2 .ensures)) (p5 .put-byte .ensures)
 
-pub put-refused-spec : {M : Type 1} → statement M
-put-refused-spec =
+pub put-pair-spec : {M : Type 1} → statement M
+put-pair-spec =
     tie.close
     (tie.spec
-    (λ c. search needs)
     (λ c κs. search needs)
+    (λ c κs. omega (arith, most (c .before .before .before)))
     (λ c κs. omega (arith, most (c .before .before .before .before .before .before .before)))
     (λ c κs. omega (arith, most (c .before .before .before .before .before .before .before .before .before .before .before)))
     (λ c κs. omega (arith, most (c .before .before .before .before .before .before .before .before .before .before .before .before .before .before .before)))
-    (λ c κs. omega (arith, most (c .before .before .before .before .before .before .before .before .before .before .before .before .before .before .before .before .before .before .before)))
     (λ c. search needs)
     returns)
