@@ -1,39 +1,31 @@
 /*
  * Cells, steel and routes in a milking stall: the calls of libstall.a, for C99 and C++.
  *
- * `rt staticlib stall` proves the library and writes target/staticlib/libstall.a.
+ * `rt staticlib stall` proves the library and writes target/staticlib/libstall.a. docs/FORMAT.md has the formats whole: the
+ * file's bits, the map, when a cell is filled, routes, and what to do about each limit.
  *
  * Common to all calls
  * -------------------
  * - A buffer passes as a pointer and then its length in elements. The pointer points to so many elements, for reading
  *   where it is const. What is written overlaps nothing that is read.
+ * - A pointer may be NULL where its length is 0.
  * - Lengths and record numbers are 64 bits wide on every machine.
  * - There is no global state, no allocation and no lock. Calls on different buffers may run at the same time.
  * - Every input is answered: a bad one with a refusal, and then every buffer holds what it held before.
  * - Bytes and numbers behind what a call writes keep their contents.
  * - Stack use: see docs/PERFORMANCE.md.
+ * - What the archive asks of the program that links it: memset, on x86-64, and nothing else. For other machines the
+ *   compiler may ask for more of its own helpers, as on a Cortex-M3 for those of libgcc that divide 64-bit numbers; so
+ *   link libgcc behind the archive there, as the compiler's driver does by itself. `nm -u libstall.a` lists them.
  *
  * The answer is one number of 64 bits:
  *
  *   bits 63 to 56   the tag (enum stall_tags)
- *   bits 55 to 48   the limit's number, where the tag is STALL_REFUSED; else 0
+ *   bits 55 to 48   the limit's number (enum stall_limits), where the tag is STALL_REFUSED; else 0
  *   bits 47 to 32   the leg, where the tag is STALL_BLOCKED; else 0
  *   bits 31 to 0    a count, a place or a cell, by the tag; 0 for STALL_FREE
  *
- * Limits
- * ------
- * The first limit that the input breaks is the answer, in the order of the numbers. The place is 0 but for 7 and 10.
- *
- *    1  the file has fewer than 12 bytes
- *    2  the version is not 1
- *    3  the cell edge is 0
- *    4  the header's last 12 bits are not zero
- *    5  on some axis the grid reaches beyond 8,191
- *    6  the file's length is not 12 + 16 x count
- *    7  a record's kind is 3; place: the lowest such record, from 0
- *    8  the map buffer is shorter than the map              (every call but stall_read)
- *    9  not 2 to 64 points, or numbers left over            (stall_route)
- *   10  a point outside the grid; place: the lowest such    (stall_route)
+ * The functions at the end take it apart.
  */
 #ifndef STALL_H
 #define STALL_H
@@ -61,6 +53,34 @@ enum stall_tags {
     STALL_FREE = 2,    /* stall_route: no leg touches a filled cell */
     STALL_BLOCKED = 3, /* stall_route: the first leg that touches one, and its lowest such cell in the low 32 bits */
     STALL_SHORT = 4    /* stall_read: `out` is too short; the low 32 bits count the numbers wanted */
+};
+
+/* The limits. The first that the input breaks is the answer, in this order. The place is 0 but for two of them. */
+enum stall_limits {
+    STALL_LIMIT_SHORT_HEADER = 1,  /* the file has fewer than 12 bytes */
+    STALL_LIMIT_VERSION = 2,       /* the version is not 1 */
+    STALL_LIMIT_ZERO_EDGE = 3,     /* the cell edge is 0 */
+    STALL_LIMIT_RESERVED_BITS = 4, /* the header's last 12 bits are not zero */
+    STALL_LIMIT_EXTENT = 5,        /* on some axis the grid reaches beyond 8,191 */
+    STALL_LIMIT_FILE_LENGTH = 6,   /* the file's length is not 12 + 16 x count */
+    STALL_LIMIT_UNUSED_KIND = 7,   /* a record's kind is 3; place: the lowest such record, from 0 */
+    STALL_LIMIT_SHORT_MAP = 8,     /* the map buffer is shorter than the map (every call but stall_read) */
+    STALL_LIMIT_POINT_COUNT = 9,   /* not 2 to 64 points, or numbers left over (stall_route) */
+    STALL_LIMIT_POINT_OUTSIDE = 10 /* a point outside the grid; place: the lowest such point, from 0 (stall_route) */
+};
+
+/* The kind of a record. All kinds fill cells alike: a gate is an obstacle, open or shut. */
+enum stall_kinds { STALL_KIND_FRAME = 0, STALL_KIND_ENTRY_GATE = 1, STALL_KIND_EXIT_GATE = 2 };
+
+/* Where the numbers of a reading stand in `out`. */
+enum stall_numbers {
+    STALL_AT_VERSION = 0,
+    STALL_AT_CELLS = 1, /* along x, y and z */
+    STALL_AT_EDGE = 4,
+    STALL_AT_ORIGIN = 5, /* x, y and z */
+    STALL_AT_COUNT = 8,  /* the triangles */
+    STALL_AT_KIND = 9,
+    STALL_AT_CORNERS = 10 /* x, y and z of corner 0, of corner 1, of corner 2 */
 };
 
 /*
@@ -96,6 +116,11 @@ uint64_t stall_fill_end(const uint8_t *file, uint64_t file_len, const uint8_t *m
  * `numbers` holds x, y, z of each point, 2 to STALL_POINTS_MOST points; numbers_len counts numbers, not points. Leg m joins
  * point m to point m + 1, from 0.
  *
+ * The cells are read from the lent map as it is: any bytes are taken as a map, and the answer is about those bits on this
+ * file's grid. That a free route meets no triangle of the file is promised only for a map that stall_fill, or begin, some
+ * and end with every record, made from this very file, and that was not changed since. No call can see where a map came
+ * from: fill it again whenever the file may be another.
+ *
  * Answer: STALL_FREE; or STALL_BLOCKED with the leg and the cell; or a refusal by limits 1 to 10.
  */
 uint64_t stall_route(const uint8_t *file, uint64_t file_len, const uint8_t *map, uint64_t map_len, const int16_t *numbers,
@@ -105,7 +130,8 @@ uint64_t stall_route(const uint8_t *file, uint64_t file_len, const uint8_t *map,
  * Reads the header's values and one record of a frame file.
  *
  * Written to the start of `out`: version, cells along x, y, z, cell edge, origin x, y, z, triangle count; and behind these,
- * where the file has the record, its kind and x, y, z of its three corners. Records are counted from 0.
+ * where the file has the record, its kind (enum stall_kinds) and x, y, z of its three corners. enum stall_numbers has
+ * their places. Records are counted from 0; no file has record 4,095, so that asking for it reads the header alone.
  *
  * Answer: STALL_DONE with the numbers written, STALL_READ_NUMBERS, or STALL_HEADER_NUMBERS where there is no such record;
  * STALL_SHORT with the numbers wanted, where out_len is less: then nothing is written; or a refusal by limits 1 to 7.
@@ -118,7 +144,7 @@ static inline unsigned stall_tag(uint64_t answer)
     return (unsigned)(answer >> 56);
 }
 
-/* The number of the limit, of a refusal. */
+/* The number of the limit, of a refusal: one of enum stall_limits. */
 static inline unsigned stall_number(uint64_t answer)
 {
     return (unsigned)(answer >> 48 & 0xff);
@@ -146,6 +172,55 @@ static inline unsigned stall_leg(uint64_t answer)
 static inline uint32_t stall_cell(uint64_t answer)
 {
     return (uint32_t)(answer & 0xffffffffu);
+}
+
+/*
+ * The place (i, j, k) of a cell, counted from 0 along x, y and z, in a grid with nx and ny cells along x and y: 1 to 64, as
+ * stall_read gives them from STALL_AT_CELLS on. In millimetres, the cell's closed box begins on the x axis at the origin's
+ * x plus i times the edge, and is one edge long; on the y and z axes likewise, with j and k.
+ */
+static inline uint32_t stall_cell_i(uint32_t cell, int32_t nx)
+{
+    return cell % (uint32_t)nx;
+}
+
+static inline uint32_t stall_cell_j(uint32_t cell, int32_t nx, int32_t ny)
+{
+    return cell / (uint32_t)nx % (uint32_t)ny;
+}
+
+static inline uint32_t stall_cell_k(uint32_t cell, int32_t nx, int32_t ny)
+{
+    return cell / (uint32_t)nx / (uint32_t)ny;
+}
+
+/* A limit in words, for a message. Any number has a text. */
+static inline const char *stall_limit_text(uint32_t limit)
+{
+    switch (limit) {
+    case STALL_LIMIT_SHORT_HEADER:
+        return "the file has fewer than 12 bytes";
+    case STALL_LIMIT_VERSION:
+        return "the file's version is not 1";
+    case STALL_LIMIT_ZERO_EDGE:
+        return "the cell edge is 0";
+    case STALL_LIMIT_RESERVED_BITS:
+        return "the header's last 12 bits are not zero";
+    case STALL_LIMIT_EXTENT:
+        return "the grid reaches beyond 8,191 mm";
+    case STALL_LIMIT_FILE_LENGTH:
+        return "the file's length does not fit its triangle count";
+    case STALL_LIMIT_UNUSED_KIND:
+        return "a record has the unused kind 3";
+    case STALL_LIMIT_SHORT_MAP:
+        return "the map buffer is too short for the grid";
+    case STALL_LIMIT_POINT_COUNT:
+        return "a route needs 2 to 64 points of three numbers each";
+    case STALL_LIMIT_POINT_OUTSIDE:
+        return "a point of the route lies outside the grid";
+    default:
+        return "no limit has this number";
+    }
 }
 
 #ifdef __cplusplus

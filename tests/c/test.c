@@ -1,14 +1,16 @@
 /*
- * Tests libstall.a from C through include/stall.h: the worked examples, every limit, and bytes behind what is written.
+ * Tests libstall.a from C through include/stall.h: the worked examples, every limit, null pointers, bytes behind what is
+ * written, and the header's own functions.
  * Prints a line a group and a line with the totals; the exit status is 1 where a check failed.
  */
+#include "stall.h" /* first, so that it is seen to need nothing before it */
+
 #include <stdio.h>
 #include <string.h>
 
-#include "stall.h"
-
 static unsigned checks, failed;
 
+/* Counts a check, and says where it failed. */
 static void check(int holds, const char *group, const char *what, int line)
 {
     checks++;
@@ -27,6 +29,7 @@ struct frame {
     size_t bits;
 };
 
+/* A field of so many bits behind those that are there. */
 static void put(struct frame *f, unsigned width, long value)
 {
     for (unsigned i = width; i-- > 0; f->bits++) {
@@ -54,6 +57,7 @@ static struct frame header(long version, long n, long edge, long origin, long co
     return f;
 }
 
+/* A record behind those that are there. */
 static void record(struct frame *f, long kind, const long corners[9])
 {
     put(f, 2, kind);
@@ -62,6 +66,7 @@ static void record(struct frame *f, long kind, const long corners[9])
     }
 }
 
+/* The bytes of a frame file. */
 static size_t length(const struct frame *f)
 {
     return f->bits / 8;
@@ -86,6 +91,7 @@ static const struct row ROWS[] = {
 
 static const struct row *const G = &ROWS[6];
 
+/* The frame file of a row. */
 static struct frame worked(const struct row *row)
 {
     struct frame f = header(1, 2, 10, 0, 1);
@@ -93,6 +99,7 @@ static struct frame worked(const struct row *row)
     return f;
 }
 
+/* Row a has the printed bytes, and each row fills its map; a file with no triangle empties it. */
 static void rows(void)
 {
     static const uint8_t printed[28] = {0x10, 0x41, 0x04, 0x28, 0x00, 0x00, 0x00, 0x00, 0x00, 0x00, 0x10, 0x00, 0x00, 0x05,
@@ -117,6 +124,7 @@ static void rows(void)
 
 /* ---- the fill in steps: two triangles, in any order, into a map that had other cells */
 
+/* Both orders give the whole map; records that the file has not fill nothing. */
 static void steps(void)
 {
     struct frame f = header(1, 2, 10, 0, 2);
@@ -144,13 +152,19 @@ static void steps(void)
 
 /* ---- the worked routes, on the map of g */
 
-static uint64_t route_on_g(const int16_t *numbers, size_t count)
+/* The route test of g's file with a map of one byte, and with its own. */
+static uint64_t route_with(uint8_t map, const int16_t *numbers, size_t count)
 {
     struct frame f = worked(G);
-    uint8_t map[1] = {G->map};
-    return stall_route(f.bytes, length(&f), map, 1, numbers, count);
+    return stall_route(f.bytes, length(&f), &map, 1, numbers, count);
 }
 
+static uint64_t route_on_g(const int16_t *numbers, size_t count)
+{
+    return route_with(G->map, numbers, count);
+}
+
+/* Free routes and blocked ones, on the map of g and on bytes that are no map of g. */
 static void routes(void)
 {
     static const int16_t free_low[6] = {0, 0, 0, 9, 9, 0}, blocked_low[6] = {0, 0, 0, 10, 10, 0};
@@ -166,6 +180,9 @@ static void routes(void)
     CHECK("routes", stall_tag(route_on_g(edge, 6)) == STALL_FREE);
     answer = route_on_g(second, 9);
     CHECK("routes", stall_tag(answer) == STALL_BLOCKED && stall_leg(answer) == 1 && stall_cell(answer) == 1);
+    CHECK("routes", stall_tag(route_with(0x00, second, 9)) == STALL_FREE);
+    answer = route_with(0x80, free_low, 6);
+    CHECK("routes", stall_tag(answer) == STALL_BLOCKED && stall_leg(answer) == 0 && stall_cell(answer) == 0);
     puts("c: worked routes");
 }
 
@@ -190,7 +207,7 @@ static void refuses(const uint8_t *file, size_t file_len, size_t map_len, unsign
     check(stall_fill_some(file, file_len, map, map_len, 0, 1) == wanted, "limits", "stall_fill_some", line);
     check(stall_fill_end(file, file_len, map, map_len) == wanted, "limits", "stall_fill_end", line);
     check(map[0] == 0xaa && map[1] == 0xaa, "limits", "the map is as it was", line);
-    if (number <= 7) {
+    if (number != STALL_LIMIT_SHORT_MAP) {
         check(stall_read(file, file_len, 0, out, 20) == wanted, "limits", "stall_read", line);
         check(stall_read(file, file_len, 0, out, 0) == wanted, "limits", "stall_read with no room", line);
     }
@@ -199,39 +216,41 @@ static void refuses(const uint8_t *file, size_t file_len, size_t map_len, unsign
     }
 }
 
+/* Limits 1 to 8, on both sides of each where it has two. */
 static void limits(void)
 {
     struct frame g = worked(G);
-    refuses(g.bytes, 0, 2, 1, 0, __LINE__);
-    refuses(g.bytes, 11, 2, 1, 0, __LINE__);
+    refuses(g.bytes, 0, 2, STALL_LIMIT_SHORT_HEADER, 0, __LINE__);
+    refuses(g.bytes, 11, 2, STALL_LIMIT_SHORT_HEADER, 0, __LINE__);
     struct frame f = header(2, 2, 10, 0, 0);
-    refuses(f.bytes, 12, 2, 2, 0, __LINE__);
+    refuses(f.bytes, 12, 2, STALL_LIMIT_VERSION, 0, __LINE__);
     f = header(1, 2, 0, 0, 0);
-    refuses(f.bytes, 12, 2, 3, 0, __LINE__);
+    refuses(f.bytes, 12, 2, STALL_LIMIT_ZERO_EDGE, 0, __LINE__);
     f = header(1, 2, 10, 0, 0);
     f.bytes[11] = 1;
-    refuses(f.bytes, 12, 2, 4, 0, __LINE__);
+    refuses(f.bytes, 12, 2, STALL_LIMIT_RESERVED_BITS, 0, __LINE__);
     f = header(1, 33, 255, 0, 0);
-    refuses(f.bytes, 12, 2, 5, 0, __LINE__);
-    refuses(g.bytes, 27, 2, 6, 0, __LINE__);
-    refuses(g.bytes, 29, 2, 6, 0, __LINE__);
+    refuses(f.bytes, 12, 2, STALL_LIMIT_EXTENT, 0, __LINE__);
+    refuses(g.bytes, 27, 2, STALL_LIMIT_FILE_LENGTH, 0, __LINE__);
+    refuses(g.bytes, 29, 2, STALL_LIMIT_FILE_LENGTH, 0, __LINE__);
     f = header(1, 2, 10, 0, 3);
     record(&f, 2, G->corners);
     record(&f, 3, G->corners);
     record(&f, 3, G->corners);
-    refuses(f.bytes, length(&f), 2, 7, 1, __LINE__);
-    refuses(f.bytes, length(&f), 0, 7, 1, __LINE__);
-    refuses(g.bytes, length(&g), 0, 8, 0, __LINE__);
+    refuses(f.bytes, length(&f), 2, STALL_LIMIT_UNUSED_KIND, 1, __LINE__);
+    refuses(f.bytes, length(&f), 0, STALL_LIMIT_UNUSED_KIND, 1, __LINE__);
+    refuses(g.bytes, length(&g), 0, STALL_LIMIT_SHORT_MAP, 0, __LINE__);
     f = header(1, 32, 255, 0, 0);
-    refuses(f.bytes, 12, 2, 8, 0, __LINE__);
+    refuses(f.bytes, 12, 2, STALL_LIMIT_SHORT_MAP, 0, __LINE__);
     puts("c: limits 1 to 8");
 }
 
+/* Limits 9 and 10, of the route test alone. */
 static void point_limits(void)
 {
     int16_t numbers[195] = {0};
-    const uint64_t nine = (uint64_t)STALL_REFUSED << 56 | (uint64_t)9 << 48;
-    const uint64_t ten = (uint64_t)STALL_REFUSED << 56 | (uint64_t)10 << 48;
+    const uint64_t nine = (uint64_t)STALL_REFUSED << 56 | (uint64_t)STALL_LIMIT_POINT_COUNT << 48;
+    const uint64_t ten = (uint64_t)STALL_REFUSED << 56 | (uint64_t)STALL_LIMIT_POINT_OUTSIDE << 48;
     CHECK("points", route_on_g(numbers, 0) == nine);
     CHECK("points", route_on_g(numbers, 3) == nine);
     CHECK("points", route_on_g(numbers, 7) == nine);
@@ -245,8 +264,116 @@ static void point_limits(void)
     puts("c: limits 9 and 10");
 }
 
+/* ---- null pointers, each with length 0 */
+
+/* Whether an answer is a refusal by this limit, with place 0. */
+static int is_refusal(uint64_t answer, unsigned number)
+{
+    return answer == ((uint64_t)STALL_REFUSED << 56 | (uint64_t)number << 48);
+}
+
+/* No file. */
+static void null_files(void)
+{
+    static const int16_t numbers[6] = {0, 0, 0, 0, 0, 0};
+    uint8_t map[1] = {0xaa};
+    int32_t out[STALL_READ_NUMBERS] = {77};
+    CHECK("null file", is_refusal(stall_fill(NULL, 0, map, 1), STALL_LIMIT_SHORT_HEADER));
+    CHECK("null file", is_refusal(stall_fill_begin(NULL, 0, map, 1), STALL_LIMIT_SHORT_HEADER));
+    CHECK("null file", is_refusal(stall_fill_some(NULL, 0, map, 1, 0, 1), STALL_LIMIT_SHORT_HEADER));
+    CHECK("null file", is_refusal(stall_fill_end(NULL, 0, map, 1), STALL_LIMIT_SHORT_HEADER));
+    CHECK("null file", is_refusal(stall_route(NULL, 0, map, 1, numbers, 6), STALL_LIMIT_SHORT_HEADER));
+    CHECK("null file", is_refusal(stall_read(NULL, 0, 0, out, STALL_READ_NUMBERS), STALL_LIMIT_SHORT_HEADER));
+    CHECK("null file", map[0] == 0xaa && out[0] == 77);
+    CHECK("all null", is_refusal(stall_fill(NULL, 0, NULL, 0), STALL_LIMIT_SHORT_HEADER));
+    CHECK("all null", is_refusal(stall_fill_begin(NULL, 0, NULL, 0), STALL_LIMIT_SHORT_HEADER));
+    CHECK("all null", is_refusal(stall_fill_some(NULL, 0, NULL, 0, 0, 1), STALL_LIMIT_SHORT_HEADER));
+    CHECK("all null", is_refusal(stall_fill_end(NULL, 0, NULL, 0), STALL_LIMIT_SHORT_HEADER));
+    CHECK("all null", is_refusal(stall_route(NULL, 0, NULL, 0, NULL, 0), STALL_LIMIT_SHORT_HEADER));
+    CHECK("all null", is_refusal(stall_read(NULL, 0, 0, NULL, 0), STALL_LIMIT_SHORT_HEADER));
+}
+
+/* No map, no numbers, no room for a reading. */
+static void null_others(void)
+{
+    static const int16_t numbers[6] = {0, 0, 0, 0, 0, 0};
+    struct frame f = worked(G);
+    size_t len = length(&f);
+    CHECK("null map", is_refusal(stall_fill(f.bytes, len, NULL, 0), STALL_LIMIT_SHORT_MAP));
+    CHECK("null map", is_refusal(stall_fill_begin(f.bytes, len, NULL, 0), STALL_LIMIT_SHORT_MAP));
+    CHECK("null map", is_refusal(stall_fill_some(f.bytes, len, NULL, 0, 0, 1), STALL_LIMIT_SHORT_MAP));
+    CHECK("null map", is_refusal(stall_fill_end(f.bytes, len, NULL, 0), STALL_LIMIT_SHORT_MAP));
+    CHECK("null map", is_refusal(stall_route(f.bytes, len, NULL, 0, numbers, 6), STALL_LIMIT_SHORT_MAP));
+    CHECK("null numbers", is_refusal(route_on_g(NULL, 0), STALL_LIMIT_POINT_COUNT));
+    uint64_t answer = stall_read(f.bytes, len, 0, NULL, 0);
+    CHECK("null out", stall_tag(answer) == STALL_SHORT && stall_count(answer) == STALL_READ_NUMBERS);
+    answer = stall_read(f.bytes, len, 1, NULL, 0);
+    CHECK("null out", stall_tag(answer) == STALL_SHORT && stall_count(answer) == STALL_HEADER_NUMBERS);
+}
+
+/* Every call takes a null pointer where its length is 0. */
+static void nulls(void)
+{
+    null_files();
+    null_others();
+    puts("c: null pointers");
+}
+
+/* ---- the header's own functions */
+
+/* The cells of a grid with three different sides, in the order of their numbers, have their places. */
+static void places(void)
+{
+    const int32_t nx = 64, ny = 3, nz = 5;
+    uint32_t cell = 0;
+    for (uint32_t k = 0; k < (uint32_t)nz; k++) {
+        for (uint32_t j = 0; j < (uint32_t)ny; j++) {
+            for (uint32_t i = 0; i < (uint32_t)nx; i++, cell++) {
+                CHECK("places", stall_cell_i(cell, nx) == i);
+                CHECK("places", stall_cell_j(cell, nx, ny) == j);
+                CHECK("places", stall_cell_k(cell, nx, ny) == k);
+            }
+        }
+    }
+    puts("c: places of cells");
+}
+
+/* Each limit has a text of its own, and every other number the same one. */
+static void texts(void)
+{
+    const char *other = stall_limit_text(0);
+    for (uint32_t limit = STALL_LIMIT_SHORT_HEADER; limit <= STALL_LIMIT_POINT_OUTSIDE; limit++) {
+        CHECK("texts", strlen(stall_limit_text(limit)) > 0 && strcmp(stall_limit_text(limit), other) != 0);
+        for (uint32_t before = STALL_LIMIT_SHORT_HEADER; before < limit; before++) {
+            CHECK("texts", strcmp(stall_limit_text(limit), stall_limit_text(before)) != 0);
+        }
+    }
+    CHECK("texts", strlen(other) > 0);
+    CHECK("texts", strcmp(stall_limit_text(STALL_LIMIT_POINT_OUTSIDE + 1), other) == 0);
+    CHECK("texts", strcmp(stall_limit_text(UINT32_MAX), other) == 0);
+    puts("c: texts of limits");
+}
+
 /* ---- the plain reading */
 
+/* The numbers of a reading stand at the places that the header names. */
+static void number_places(void)
+{
+    struct frame f = header(1, 2, 10, -7, 1);
+    int32_t out[STALL_READ_NUMBERS];
+    record(&f, STALL_KIND_EXIT_GATE, G->corners);
+    CHECK("places", stall_count(stall_read(f.bytes, length(&f), 0, out, STALL_READ_NUMBERS)) == STALL_READ_NUMBERS);
+    CHECK("places", out[STALL_AT_VERSION] == 1 && out[STALL_AT_EDGE] == 10 && out[STALL_AT_COUNT] == 1);
+    CHECK("places", out[STALL_AT_KIND] == STALL_KIND_EXIT_GATE);
+    for (int axis = 0; axis < 3; axis++) {
+        CHECK("places", out[STALL_AT_CELLS + axis] == 2 && out[STALL_AT_ORIGIN + axis] == -7);
+    }
+    for (int i = 0; i < 9; i++) {
+        CHECK("places", out[STALL_AT_CORNERS + i] == G->corners[i]);
+    }
+}
+
+/* Each record, and none, into buffers of every length up to one more than is wanted. */
 static void readings(void)
 {
     struct frame f = header(1, 2, 10, -7, 2);
@@ -272,9 +399,11 @@ static void readings(void)
             }
         }
     }
+    number_places();
     puts("c: plain reading");
 }
 
+/* Every group in turn, and the totals. */
 int main(void)
 {
     rows();
@@ -282,7 +411,10 @@ int main(void)
     routes();
     limits();
     point_limits();
+    nulls();
     readings();
+    places();
+    texts();
     printf("c: %u checks, %u failed\n", checks, failed);
     return failed != 0;
 }
