@@ -1,7 +1,7 @@
 //! The frame file, as the peers read it, with the questions 1 to 8.
 
 use crate::rule::{Point, Triangle};
-use stall::Refusal;
+use stall::{Limit, Refusal};
 
 /// Where cells stand: how many along each axis, their edge, and the lowest corner of the first.
 #[derive(Clone, Copy, Debug)]
@@ -51,9 +51,9 @@ pub struct Frame<'a> {
 impl<'a> Frame<'a> {
     /// Questions 1 to 8, in turn.
     pub fn read(file: &'a [u8], map_length: usize) -> Result<Self, Refusal> {
-        let no = |number| Err(Refusal { number, place: 0 });
+        let no = |limit| Err(Refusal { limit, place: 0 });
         if file.len() < 12 {
-            return no(1);
+            return no(Limit::ShortHeader);
         }
         let mut bytes = [0; 16];
         bytes[..12].copy_from_slice(&file[..12]);
@@ -66,29 +66,29 @@ impl<'a> Frame<'a> {
         };
         let count = field(word, 72, 12) as usize;
         if field(word, 0, 4) != 1 {
-            return no(2);
+            return no(Limit::Version);
         }
         if grid.edge == 0 {
-            return no(3);
+            return no(Limit::ZeroEdge);
         }
         if field(word, 84, 12) != 0 {
-            return no(4);
+            return no(Limit::ReservedBits);
         }
         if (0..3).any(|w| grid.origin[w] + grid.cells[w] as i64 * grid.edge > 8191) {
-            return no(5);
+            return no(Limit::Extent);
         }
         if file.len() != 12 + 16 * count {
-            return no(6);
+            return no(Limit::FileLength);
         }
         let records = &file[12..];
         if let Some(i) = records.chunks_exact(16).position(|r| r[0] >> 6 == 3) {
             return Err(Refusal {
-                number: 7,
-                place: i as u32,
+                limit: Limit::UnusedKind,
+                place: i,
             });
         }
         if map_length < grid.map_length() {
-            return no(8);
+            return no(Limit::ShortMap);
         }
         Ok(Frame { grid, records })
     }

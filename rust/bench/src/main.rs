@@ -1,13 +1,15 @@
 //! Fills maps and tests routes by the verified library and by peers written in Rust, to count
 //! instructions, to time, and to compare.
 //!
-//!     bench fill PEER SCENE CELLS N       fill the scene's map N times, CELLS cells a side
-//!     bench count SCENE CELLS             print the number of filled cells
-//!     bench route PEER SHAPE ANSWER N     test a route of 63 legs N times: slim or wide, free or blocked
-//!     bench time fill SCENE CELLS         print the microseconds of rattle and of halving
-//!     bench time route SHAPE ANSWER       print the microseconds of rattle, rows, box and cells
-//!     bench stack                         print the greatest stack of a fill, a route test and a reading
-//!     bench check                         hold every peer to the rule as printed, and to the others
+//! ```text
+//! bench fill PEER SCENE CELLS N       fill the scene's map N times, CELLS cells a side
+//! bench count SCENE CELLS             print the number of filled cells
+//! bench route PEER SHAPE ANSWER N     test a route of 63 legs N times: slim or wide, free or blocked
+//! bench time fill SCENE CELLS         print the microseconds of rattle and of halving
+//! bench time route SHAPE ANSWER       print the microseconds of rattle, rows, box and cells
+//! bench stack                         print the greatest stack of a fill, a route test and a reading
+//! bench check                         hold every peer to the rule as printed, and to the others
+//! ```
 
 mod frame;
 mod halving;

@@ -1,7 +1,7 @@
 //! The rule as printed: no peer, but what the peers are held to. It is that of `rust/independent`,
 //! and its answers are said in the library's types.
 
-use stall::{Refusal, Route};
+use stall::{Limit, Refusal, Route};
 
 /// The fill.
 pub fn fill(file: &[u8], map: &mut [u8]) -> Result<usize, Refusal> {
@@ -20,7 +20,7 @@ pub fn test_route(file: &[u8], map: &[u8], numbers: &[i16]) -> Result<Route, Ref
 /// A refusal in the library's type.
 fn refusal(no: independent::Refusal) -> Refusal {
     Refusal {
-        number: no.number as u8,
-        place: no.place as u32,
+        limit: Limit::from_number(no.number as u8).unwrap(),
+        place: no.place,
     }
 }

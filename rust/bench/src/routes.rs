@@ -6,7 +6,7 @@ use crate::printed;
 use crate::rule::{cells_of_box, Block, Point, Setup, Triangle, PLANES};
 use crate::runs;
 use crate::scenes::{self, Random};
-use stall::{Refusal, Route};
+use stall::{Limit, Refusal, Route};
 use std::collections::HashSet;
 
 /// What a route test answers.
@@ -17,7 +17,7 @@ pub type Test = fn(&[u8], &[u8], &[i16]) -> Answer;
 
 /// The peers by name. The first is the verified library.
 pub const PEERS: [(&str, Test); 4] = [
-    ("rattle", stall::test_route),
+    ("rattle", stall::test_route_numbers),
     ("rows", rows),
     ("box", whole_box),
     ("cells", each_cell),
@@ -46,9 +46,9 @@ fn test_by(
 /// Questions 1 to 10, in turn.
 fn questions(file: &[u8], map: &[u8], numbers: &[i16]) -> Result<Grid, Refusal> {
     let grid = Frame::read(file, map.len())?.grid;
-    if !(2..=64).contains(&(numbers.len() / 3)) || numbers.len() % 3 != 0 {
+    if !(2..=64).contains(&(numbers.len() / 3)) || !numbers.len().is_multiple_of(3) {
         return Err(Refusal {
-            number: 9,
+            limit: Limit::PointCount,
             place: 0,
         });
     }
@@ -58,8 +58,8 @@ fn questions(file: &[u8], map: &[u8], numbers: &[i16]) -> Result<Grid, Refusal> 
     };
     match numbers.chunks_exact(3).position(|p| outside(point(p))) {
         Some(i) => Err(Refusal {
-            number: 10,
-            place: i as u32,
+            limit: Limit::PointOutside,
+            place: i,
         }),
         None => Ok(grid),
     }

@@ -32,8 +32,7 @@ impl Tally {
         self.fills += 1;
         let before = random.bytes(length);
         let (mut map, mut apart_map) = (before.clone(), before.clone());
-        let answer = stall::fill(file, &mut map)
-            .map_err(|refusal| (u32::from(refusal.number), refusal.place as usize));
+        let answer = stall::fill(file, &mut map).map_err(said);
         let apart = independent::fill(file, &mut apart_map)
             .map_err(|refusal| (refusal.number, refusal.place));
         let kept = answer.is_ok() || map == before;
@@ -107,7 +106,7 @@ impl Tally {
         apart: Result<usize, independent::Refusal>,
         wanted: &[u8],
     ) {
-        let answer = answer.map_err(|refusal| (u32::from(refusal.number), refusal.place as usize));
+        let answer = answer.map_err(said);
         let apart = apart.map_err(|refusal| (refusal.number, refusal.place));
         if answer != apart || map != wanted {
             let first = map.iter().zip(wanted).position(|(a, b)| a != b);
@@ -128,12 +127,12 @@ impl Tally {
     /// Both test a route on a map.
     pub fn route(&mut self, file: &[u8], map: &[u8], numbers: &[i16]) {
         self.routes += 1;
-        let answer = stall::test_route(file, map, numbers)
+        let answer = stall::test_route_numbers(file, map, numbers)
             .map(|route| match route {
                 stall::Route::Free => None,
                 stall::Route::Blocked { leg, cell } => Some((leg, cell)),
             })
-            .map_err(|refusal| (u32::from(refusal.number), refusal.place as usize));
+            .map_err(said);
         let apart = independent::test_route(file, map, numbers)
             .map(|route| match route {
                 independent::Route::Free => None,
@@ -161,9 +160,10 @@ impl Tally {
         let answer = stall::read_numbers(file, record, &mut out);
         let (apart, numbers) = match independent::read(file, record) {
             Err(refusal) => {
+                let limit = u8::try_from(refusal.number).ok();
                 let refusal = stall::Refusal {
-                    number: refusal.number as u8,
-                    place: refusal.place as u32,
+                    limit: limit.and_then(stall::Limit::from_number).unwrap(),
+                    place: refusal.place,
                 };
                 (Err(stall::NotRead::Refused(refusal)), Vec::new())
             }
@@ -194,6 +194,11 @@ impl Tally {
             );
         }
     }
+}
+
+/// The number and the place of the library's refusal, as the other says them.
+fn said(refusal: stall::Refusal) -> (u32, usize) {
+    (u32::from(refusal.limit.number()), refusal.place)
 }
 
 /// A reading's numbers in the order of the library's buffer.

@@ -45,7 +45,7 @@ fn bytes() {
 #[test]
 fn rows() {
     for (corners, byte) in [
-        ([5; 9], 0x80),
+        ([5; 9], 0x80u8),
         ([10, 5, 5, 10, 5, 5, 10, 5, 5], 0xc0),
         ([10; 9], 0xff),
         ([20, 5, 5, 20, 5, 5, 20, 5, 5], 0x40),
@@ -58,7 +58,7 @@ fn rows() {
         let mut map = [0xaa; 3];
         assert_eq!(
             fill(&file(corners), &mut map),
-            Ok((byte as u8).count_ones() as usize)
+            Ok(byte.count_ones() as usize)
         );
         assert_eq!(map, [byte, 0xaa, 0xaa], "{corners:?}");
     }
