@@ -49,8 +49,8 @@ mod route;
 
 pub use filling::{fill, fill_begin, fill_end, fill_some};
 pub use limit::{Limit, Refusal};
-pub use reading::{read, read_numbers, Header, Kind, NotRead, Reading, Record};
-pub use route::{test_route, test_route_numbers, Route};
+pub use reading::{Header, Kind, NotRead, Reading, Record, read, read_numbers};
+pub use route::{Route, test_route, test_route_numbers};
 
 /// The longest file, in bytes: 4,095 triangles.
 pub const FILE_MOST: usize = 65_532;

@@ -1,7 +1,7 @@
 //! The calls as the library has them, for a caller that wants no wrapper. `include/stall.h` says what each does, what its
 //! pointers must be, and what the bits of its answer are.
 
-extern "C" {
+unsafe extern "C" {
     /// Fills the map of a frame file.
     pub fn stall_fill(file: *const u8, file_len: u64, map: *mut u8, map_len: u64) -> u64;
     /// Begins a fill in steps.

@@ -1,8 +1,8 @@
 //! The plain reading of a frame file: the header's values and one record.
 
-use crate::answer::{long, low, refusal, tag, DONE, SHORT};
+use crate::answer::{DONE, SHORT, long, low, refusal, tag};
 use crate::limit::Refusal;
-use crate::{library, Point, READ_NUMBERS};
+use crate::{Point, READ_NUMBERS, library};
 use core::error::Error;
 use core::fmt::{self, Display, Formatter};
 

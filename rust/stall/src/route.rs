@@ -1,8 +1,8 @@
 //! The route test.
 
-use crate::answer::{leg, long, low, refusal, tag, BLOCKED, FREE};
+use crate::answer::{BLOCKED, FREE, leg, long, low, refusal, tag};
 use crate::limit::Refusal;
-use crate::{library, Point};
+use crate::{Point, library};
 
 /// What is said of a route.
 #[derive(Clone, Copy, Debug, PartialEq, Eq, Hash)]

@@ -1,8 +1,8 @@
 //! Each answer of the library comes through the wrapper as its own case.
 
 use stall::{
-    fill, fill_begin, fill_end, fill_some, read, read_numbers, test_route, test_route_numbers,
-    Header, Kind, Limit, NotRead, Record, Refusal, Route,
+    Header, Kind, Limit, NotRead, Record, Refusal, Route, fill, fill_begin, fill_end, fill_some,
+    read, read_numbers, test_route, test_route_numbers,
 };
 
 /// Two cells a side of edge 10 from (0, 0, 0), and one triangle: (1, 20, 5), (20, 20, 5), (20, 1, 5).
