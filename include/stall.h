@@ -15,8 +15,8 @@
  * - Bytes and numbers behind what a call writes keep their contents.
  * - Stack use: see docs/PERFORMANCE.md.
  * - What the archive asks of the program that links it: memset, on x86-64, and nothing else. For other machines the
- *   compiler may ask for more of its own helpers, as on a Cortex-M3 for those of libgcc that divide 64-bit numbers; so
- *   link libgcc behind the archive there, as the compiler's driver does by itself. `nm -u libstall.a` lists them.
+ *   compiler may ask for more, as on a Cortex-M3 for the functions of libgcc that divide 64-bit numbers; so link libgcc
+ *   behind the archive there, as the compiler's driver does by itself. `nm -u libstall.a` lists what is asked for.
  *
  * The answer is one number of 64 bits:
  *
