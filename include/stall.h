@@ -179,16 +179,20 @@ static inline uint32_t stall_cell(uint64_t answer)
  * stall_read gives them from STALL_AT_CELLS on. In millimetres, the cell's closed box begins on the x axis at the origin's
  * x plus i times the edge, and is one edge long; on the y and z axes likewise, with j and k.
  */
+
+/* The place along x. */
 static inline uint32_t stall_cell_i(uint32_t cell, int32_t nx)
 {
     return cell % (uint32_t)nx;
 }
 
+/* The place along y. */
 static inline uint32_t stall_cell_j(uint32_t cell, int32_t nx, int32_t ny)
 {
     return cell / (uint32_t)nx % (uint32_t)ny;
 }
 
+/* The place along z. */
 static inline uint32_t stall_cell_k(uint32_t cell, int32_t nx, int32_t ny)
 {
     return cell / (uint32_t)nx / (uint32_t)ny;
