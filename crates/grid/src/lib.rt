@@ -95,8 +95,8 @@ fn inside_on(origin: i64, cells: usize, edge: i64, at: i64) -> bool
     at <= far
 }
 
-// origin + i × edge
-fn along(origin: i64, i: usize, edge: i64) -> i64
+// On an axis, where cell i begins: origin + i × edge.
+pub fn along(origin: i64, i: usize, edge: i64) -> i64
     requires { ⌜ Within coordinateMax origin × (i ≤ 64) × Within stepMax edge ⌝ }
     ensures { λ r. ⌜ r ≡ origin +ℤ pos i *ℤ edge ⌝ }
 {

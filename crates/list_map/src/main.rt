@@ -1,6 +1,6 @@
-// The map lister: a frame file from standard input, the listing of its map to standard output.
+// The map lister: a frame file from standard input, the listing of its map to standard output. The line of a refusal goes to
+// standard error too, for the command that runs it.
 use libc::STDIN_FILENO;
-use libc::STDOUT_FILENO;
 use listing::Begun;
 use listing::Piece;
 use listing::Rest;
@@ -22,13 +22,13 @@ fn list(file: &mut [u8], map: &mut [u8], out: &mut [u8])
     let len = io::read_full(STDIN_FILENO, file);
     match listing::begin(&file[..len], map, out) {
         Begun::More(first, rest) => {
-            if send(out, first) {
+            if console::send(out, first) {
                 list_cells(map, rest, out);
             }
         }
         Begun::Refused(limit) => {
             let line = listing::put_refusal(limit, out);
-            send(out, line);
+            console::refuse(out, line);
         }
         Begun::ShortBuffer => {}
     }
@@ -42,13 +42,13 @@ fn list_cells(map: &[u8], rest: Rest, out: &mut [u8])
     loop {
         match listing::more(map, left, out) {
             Piece::Written(len, next) => {
-                if !send(out, len) {
+                if !console::send(out, len) {
                     return;
                 }
                 left = next;
             }
             Piece::Last(len) => {
-                send(out, len);
+                console::send(out, len);
                 return;
             }
             Piece::Unusable => {
@@ -56,12 +56,4 @@ fn list_cells(map: &[u8], rest: Rest, out: &mut [u8])
             }
         }
     }
-}
-
-// Writes the first len bytes, and answers whether all were taken. No listing gives more bytes than the buffer has.
-fn send(out: &[u8], len: usize) -> bool {
-    if len <= out.len() {
-        return io::write_all(STDOUT_FILENO, &out[..len]);
-    }
-    false
 }

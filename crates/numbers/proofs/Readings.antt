@@ -35,13 +35,13 @@ a & b = (a, b)
 point-small : {p : Point} (zs : List ℤ) → PointWithin (2 ^ 13) p → Small zs → Small (p .x ∷ p .y ∷ p .z ∷ zs)
 point-small zs h r = coordinate (h .x) & coordinate (h .y) & coordinate (h .z) & r
 
-accepted-small : {s : List ℕ} {h : Header} → AcceptedFile s h → Small (headerNumbers h)
+pub accepted-small : {s : List ℕ} {h : Header} → AcceptedFile s h → Small (headerNumbers h)
 accepted-small {h = h} a =
     let g = a .grid .within in
     natural (omega (arith, a .version)) & natural (omega (arith, g .x .most)) & natural (omega (arith, g .y .most)) & natural (omega (arith, g .z .most))
     & within-weaken (lit≤ tt) (g .edge) & point-small (pos (h .count) ∷ []) (g .origin) (natural (a .count) & tt)
 
-record-small : (s : List ℕ) (i : ℕ) → Small (recordNumbers (recordOf s i))
+pub record-small : (s : List ℕ) (i : ℕ) → Small (recordNumbers (recordOf s i))
 record-small s i =
     let w = record-within (fromRecord version1 s i) in
     let t = recordOf s i .triangle in

@@ -66,7 +66,7 @@ pub fn copy(numbers: &[i32], out: &mut [i32])
 }
 
 // A small natural number, as it is put out. A call keeps the cast out of the caller's proof.
-fn small(n: usize) -> i32
+pub fn small(n: usize) -> i32
     requires { ⌜ Within (2 ^ 24) (pos n) ⌝ }
     ensures { λ r. ⌜ r ≡ pos n ⌝ }
 {
@@ -74,7 +74,7 @@ fn small(n: usize) -> i32
 }
 
 // A small whole number, as it is put out.
-fn narrow(x: i64) -> i32
+pub fn narrow(x: i64) -> i32
     requires { ⌜ Within (2 ^ 24) x ⌝ }
     ensures { λ r. ⌜ r ≡ x ⌝ }
 {

@@ -1,4 +1,4 @@
--- The lines of a listing. Definitions only.
+-- The lines of a listing and of a route's answer. Definitions only.
 use mathlib.Core.List.{List, [], _∷_, _++_}
 use Prim.Native.Nat.{ℕ}
 use Rattle.text.specs.Text.{decimal, space, lineFeed}
@@ -16,7 +16,15 @@ ofWord = 32 ∷ 79 ∷ 70 ∷ 32 ∷ []
 abbrev pub refusedWord : List ℕ
 refusedWord = 82 ∷ 69 ∷ 70 ∷ 85 ∷ 83 ∷ 69 ∷ 68 ∷ 32 ∷ []
 
+-- "BLOCKED "
+abbrev pub blockedWord : List ℕ
+blockedWord = 66 ∷ 76 ∷ 79 ∷ 67 ∷ 75 ∷ 69 ∷ 68 ∷ 32 ∷ []
+
 -- ---- lines
+-- "FREE"
+abbrev pub freeLine : List ℕ
+freeLine = 70 ∷ 82 ∷ 69 ∷ 69 ∷ lineFeed
+
 -- A word, a number, a second word and a second number
 abbrev pub pairLine : (word : List ℕ) (a : ℕ) (second : List ℕ) (b : ℕ) → List ℕ
 pairLine word a second b = word ++ decimal a ++ second ++ decimal b ++ lineFeed
@@ -29,12 +37,16 @@ filledLine count cells = pairLine filledWord count ofWord cells
 abbrev pub refusedLine : (number place : ℕ) → List ℕ
 refusedLine number place = pairLine refusedWord number space place
 
+-- "BLOCKED leg cell"
+abbrev pub blockedLine : (leg cell : ℕ) → List ℕ
+blockedLine leg cell = pairLine blockedWord leg space cell
+
 -- "i j k"
 abbrev pub placeLine : (i j k : ℕ) → List ℕ
 placeLine i j k = decimal i ++ space ++ decimal j ++ space ++ decimal k ++ lineFeed
 
 -- ---- lengths that are enough
--- Of a first line, FILLED or REFUSED, whatever its numbers.
+-- Of a line with two words and two numbers, whatever they are.
 abbrev pub firstMost : ℕ
 firstMost = 64
 

@@ -1,11 +1,14 @@
-// The text of a listing, into bytes that the caller lends: its lines, and what they are made of, numbers in base ten, words
-// and bytes. Each function answers the place behind what it puts.
+// The text of a listing and of other answers, into bytes that the caller lends: lines, and what they are made of, numbers in
+// base ten, words and bytes. Each function answers the place behind what it puts.
 ghost use mathlib.Core.List.{[], _∷_};
-ghost use Prim.Native.Nat.{_+_, _<_, _≤_};
-ghost use lib.ListN.{length};
-ghost use Rattle.text.specs.Text.{decimal};
+ghost use mathlib.Core.Path.{_≡_};
+ghost use Prim.Native.Nat.{_+_, _*_, _^_, _<_, _≤_};
+ghost use lib.IntN.{pos};
+ghost use lib.ListN.{length, getD};
+ghost use Rattle.integers.specs.Within.{Within};
+ghost use Rattle.text.specs.Text.{decimal, signedDecimal, spaced};
 ghost use Rattle.text.specs.Inner.{Puts};
-ghost use Rattle.text.specs.Lines.{pairLine, filledLine, refusedLine, placeLine, firstMost, lineMost};
+ghost use Rattle.text.specs.Lines.{pairLine, filledLine, refusedLine, freeLine, blockedLine, placeLine, firstMost, lineMost};
 
 // Puts "FILLED count OF cells" at the start.
 pub fn put_filled(out: &mut [u8], count: usize, cells: usize) -> usize
@@ -21,6 +24,22 @@ pub fn put_refused(out: &mut [u8], number: usize, place: usize) -> usize
     ensures { λ r. ⌜ Puts (now (out .entry)) 0 (refusedLine number place) (now (out .exit)) r ⌝ }
 {
     put_pair(out, b"REFUSED ", number, b" ", place)
+}
+
+// Puts "FREE" at the start.
+pub fn put_free(out: &mut [u8]) -> usize
+    requires { ⌜ firstMost ≤ length (now out) ⌝ }
+    ensures { λ r. ⌜ Puts (now (out .entry)) 0 freeLine (now (out .exit)) r ⌝ }
+{
+    put_word(out, 0, b"FREE\n")
+}
+
+// Puts "BLOCKED leg cell" at the start.
+pub fn put_blocked(out: &mut [u8], leg: usize, cell: usize) -> usize
+    requires { ⌜ firstMost ≤ length (now out) ⌝ }
+    ensures { λ r. ⌜ Puts (now (out .entry)) 0 (blockedLine leg cell) (now (out .exit)) r ⌝ }
+{
+    put_pair(out, b"BLOCKED ", leg, b" ", cell)
 }
 
 // Puts a line of a word, a number, a second word and a second number at the start. A number has at most 20 digits.
@@ -46,6 +65,42 @@ pub fn put_place(out: &mut [u8], at: usize, i: usize, j: usize, k: usize) -> usi
     let third = put_byte(out, behind_j, 32);
     let behind_k = put_number(out, third, k);
     put_byte(out, behind_k, 10)
+}
+
+// Puts numbers in base ten, each with a space behind it.
+pub fn put_numbers(out: &mut [u8], at: usize, numbers: &[i32]) -> usize
+    requires { ⌜ at + 12 * length (now numbers) ≤ length (now out) ⌝ }
+    ensures { λ r. ⌜ Puts (now (out .entry)) at (spaced (now (numbers .entry))) (now (out .exit)) r × (r ≤ at + 12 * length (now (numbers .entry))) ⌝ }
+{
+    let mut end = at;
+    let mut i = 0;
+    while i < numbers.len() {
+        let behind = put_signed(out, end, read(numbers, i));
+        end = put_byte(out, behind, 32);
+        i += 1;
+    }
+    end
+}
+
+// Number i, widened. A call keeps the cast out of the caller's proof.
+fn read(numbers: &[i32], i: usize) -> i64
+    requires { ⌜ i < length (now numbers) ⌝ }
+    ensures { λ r. ⌜ (r ≡ getD (now (numbers .entry)) i (pos 0)) × Within (2 ^ 31) r ⌝ }
+{
+    numbers[i] as i64
+}
+
+// Puts a number in base ten, with a minus sign where it is negative.
+fn put_signed(out: &mut [u8], at: usize, z: i64) -> usize
+    requires { ⌜ Within (2 ^ 31) z × (at + 11 ≤ length (now out)) ⌝ }
+    ensures { λ r. ⌜ Puts (now (out .entry)) at (signedDecimal z) (now (out .exit)) r × (r ≤ at + 11) ⌝ }
+{
+    let size = integers::to_index(integers::magnitude(z));
+    if z < 0 {
+        let first = put_byte(out, at, b'-');
+        return put_number(out, first, size);
+    }
+    put_number(out, at, size)
 }
 
 // Puts a number in base ten: the digits of its tenth, then its last digit.

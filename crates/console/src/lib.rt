@@ -1,0 +1,49 @@
+// What the programs for people share: an answer goes to standard output; what else the command that runs them has to know
+// goes to standard error, as one line.
+use libc::STDERR_FILENO;
+use libc::STDOUT_FILENO;
+
+// Writes the first len bytes to standard output, and answers whether all were taken. Where not, it says LOST.
+pub fn send(out: &[u8], len: usize) -> bool {
+    told(write(STDOUT_FILENO, out, len))
+}
+
+// The same of a number in base ten.
+pub fn send_number(n: usize) -> bool {
+    told(io::print_decimal(STDOUT_FILENO, n as u64))
+}
+
+// Says LOST where a write failed.
+fn told(taken: bool) -> bool {
+    if !taken {
+        io::write_all(STDERR_FILENO, b"LOST\n");
+    }
+    taken
+}
+
+// Writes the line of a refusal, the first len bytes, to standard output, and says it to the command too.
+pub fn refuse(out: &[u8], len: usize) {
+    if send(out, len) {
+        say(out, len);
+    }
+}
+
+// Says the first len bytes to the command.
+pub fn say(out: &[u8], len: usize) {
+    write(STDERR_FILENO, out, len);
+}
+
+// Says the place of an argument that is no number.
+pub fn say_number(place: usize) {
+    io::write_all(STDERR_FILENO, b"NUMBER ");
+    io::print_decimal(STDERR_FILENO, place as u64);
+    io::write_all(STDERR_FILENO, b"\n");
+}
+
+// Writes the first len bytes. No text has more bytes than its buffer.
+fn write(fd: i32, out: &[u8], len: usize) -> bool {
+    if len <= out.len() {
+        return io::write_all(fd, &out[..len]);
+    }
+    false
+}

@@ -1,0 +1,117 @@
+// The route tester: a frame file from standard input, a route's numbers as arguments; the answer to standard output.
+// Where the route is blocked, the cell's place and box go to standard error. An argument that is no number of 16 bits
+// gives no answer: its place goes to standard error.
+use frame::Checked;
+use libc::STDIN_FILENO;
+use parse::Word;
+use route::RouteAnswer;
+ghost use Prim.Native.Nat.{_≤_, _<_};
+ghost use lib.ListN.{length};
+
+// How the arguments were read: so many numbers, or the place of the first that is none.
+enum Numbers {
+    Read(usize),
+    Wrong(usize),
+}
+
+// Lends the memory: one byte more than the longest file that can be accepted, the largest map, the numbers of one point
+// more than a route may have, and text.
+fn main() {
+    let mut file = [0u8; 65533];
+    let mut map = [0u8; 32768];
+    let mut numbers = [0i16; 195];
+    let mut out = io::buffer();
+    match read_numbers(&mut numbers) {
+        Numbers::Read(count) => answer(&mut file, &mut map, &numbers, count, &mut out),
+        Numbers::Wrong(place) => console::say_number(place),
+    }
+}
+
+// Reads the arguments, as many as there is room for: more are refused as too many points are.
+fn read_numbers(numbers: &mut [i16]) -> Numbers {
+    let given = os::arg_count();
+    let mut i = 0;
+    while i < numbers.len() {
+        let place = i + 1;
+        if given <= place {
+            return Numbers::Read(i);
+        }
+        if !keep(numbers, i, argument(place)) {
+            return Numbers::Wrong(place);
+        }
+        i = place;
+    }
+    Numbers::Read(i)
+}
+
+// Puts a number at place i where 16 bits hold it, and answers whether they do.
+fn keep(numbers: &mut [i16], i: usize, x: i64) -> bool
+    requires { ⌜ i < length (now numbers) ⌝ }
+{
+    if x < -32768 {
+        return false;
+    }
+    if 32767 < x {
+        return false;
+    }
+    numbers[i] = x as i16;
+    true
+}
+
+// The number that an argument says. Where it says none, a number that no 16 bits hold.
+fn argument(place: usize) -> i64 {
+    let mut word = [0u8; 32];
+    let len = os::arg(place, &mut word);
+    match parse::number_in(&word[..len]) {
+        Word::Number(x) => x,
+        Word::NoNumber => 32768,
+    }
+}
+
+// Reads the file, fills the map, tests the route of the first `count` numbers, and writes the answer.
+fn answer(file: &mut [u8], map: &mut [u8], numbers: &[i16], count: usize, out: &mut [u8])
+    requires { ⌜ 128 ≤ length (now out) ⌝ }
+{
+    let len = io::read_full(STDIN_FILENO, file);
+    let read = &file[..len];
+    fill::fill(read, map);
+    match test(read, map, numbers, count) {
+        RouteAnswer::Free => {
+            let line = text::put_free(out);
+            console::send(out, line);
+        }
+        RouteAnswer::Blocked(leg, cell) => {
+            let line = text::put_blocked(out, leg, cell);
+            if console::send(out, line) {
+                say_cell(read, cell, out);
+            }
+        }
+        RouteAnswer::Refused(limit) => {
+            let line = listing::put_refusal(limit, out);
+            console::refuse(out, line);
+        }
+    }
+}
+
+// Tests the route of the first `count` numbers. There are never more than were read.
+fn test(file: &[u8], map: &[u8], numbers: &[i16], count: usize) -> RouteAnswer {
+    if count <= numbers.len() {
+        return route::test_route(file, map, &numbers[..count]);
+    }
+    route::test_route(file, map, numbers)
+}
+
+// Says where a cell of the file's grid is.
+fn say_cell(file: &[u8], cell: usize, out: &mut [u8])
+    requires { ⌜ 128 ≤ length (now out) ⌝ }
+{
+    match frame::check(file) {
+        Checked::Accepted(header) => {
+            if cell < grid::cell_count(header.grid) {
+                let line = cell_line::put_cell(out, header.grid, cell);
+                console::say(out, line);
+            }
+        }
+        Checked::Refused(_) => {}
+    }
+}
