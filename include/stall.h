@@ -14,9 +14,8 @@
  * - Every input is answered: a bad one with a refusal, and then every buffer holds what it held before.
  * - Bytes and numbers behind what a call writes keep their contents.
  * - Stack use: see docs/PERFORMANCE.md.
- * - What the archive asks of the program that links it: memset, on x86-64, and nothing else. For other machines the
- *   compiler may ask for more, as on a Cortex-M3 for the functions of libgcc that divide 64-bit numbers; so link libgcc
- *   behind the archive there, as the compiler's driver does by itself. `nm -u libstall.a` lists what is asked for.
+ * - What the archive asks of the program that links it: on x86-64 memset; on a Cortex-M3 __aeabi_ldivmod, which libgcc has,
+ *   and __aeabi_memclr, __aeabi_memclr4 and __aeabi_memcpy, which a C library has. `nm -u libstall.a` lists them.
  *
  * The answer is one number of 64 bits:
  *
