@@ -16,7 +16,8 @@ isFigure c = cond (ltb c 48) false (ltb c 58)
 abbrev pub withSign : (negative : Bool) → ℕ → ℤ
 withSign negative n = cond negative (negℤ (pos n)) (pos n)
 
--- Figures behind others that say n. The last but one of them is to say less than 10 ^ 15, so that at most 16 figures count.
+-- Figures behind others that say n. A figure counts only behind a number below 10 ^ 15: no number has more than 16 figures, zeros in
+-- front not counted.
 unfoldable pub figuresFrom : (negative : Bool) → ℕ → List ℕ → Word
 figuresFrom negative n [] = Number (withSign negative n)
 figuresFrom negative n (c ∷ cs) = cond (isFigure c) (cond (ltb n 1000000000000000) (figuresFrom negative (n * 10 + (c - 48)) cs) NoNumber) NoNumber

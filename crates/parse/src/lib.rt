@@ -9,7 +9,7 @@ pub enum Word {
     NoNumber,
 }
 
-// The number that a word says: figures, at most 16, with a minus sign before them or none.
+// The number that a word says: figures, at most 16 behind zeros in front, with a minus sign before them or none.
 pub fn number_in(word: &[u8]) -> Word
     ensures { λ r. ⌜ r ≡ numberIn (now (word .entry)) ⌝ }
 {

@@ -68,7 +68,8 @@ fn argument(place: usize) -> i64 {
     }
 }
 
-// Reads the file, fills the map, tests the route of the first `count` numbers, and writes the answer.
+// Reads the file, fills the map, tests the route of the first `count` numbers, and writes the answer. Where the file is refused,
+// the test says so too.
 fn answer(file: &mut [u8], map: &mut [u8], numbers: &[i16], count: usize, out: &mut [u8])
     requires { ⌜ 128 ≤ length (now out) ⌝ }
 {
