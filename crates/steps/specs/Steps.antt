@@ -54,7 +54,7 @@ pub record Range : Type 0 where
   pub first : ℕ
   pub count : ℕ
 
--- Begin, then the ranges in turn.
+-- The ranges in turn; and begin, then the ranges in turn.
 unfoldable pub steppedBytes : (file map : List ℕ) → List Range → List ℕ
 steppedBytes s m [] = m
 steppedBytes s m (r ∷ rs) = steppedBytes s (joinedBytes s m (r .first) (r .count)) rs
