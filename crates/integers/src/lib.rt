@@ -56,6 +56,14 @@ pub fn read_i16(s: &[i16], i: usize) -> i64
     s[i] as i64
 }
 
+// The same of numbers of 32 bits.
+pub fn read_i32(numbers: &[i32], i: usize) -> i64
+    requires { ⌜ i < length (now numbers) ⌝ }
+    ensures { λ r. ⌜ r ≡ getD (now (numbers .entry)) i (pos 0) ⌝ }
+{
+    numbers[i] as i64
+}
+
 // The magnitude of a number.
 pub fn magnitude(x: i64) -> i64
     requires { ⌜ Within (2 ^ 62) x ⌝ }
