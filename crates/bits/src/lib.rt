@@ -1,11 +1,12 @@
-// A cursor over bit fields in a slice of bytes, the most significant bit first.
+// Bit fields in a slice of bytes, the most significant bit first: a cursor that reads them and a pen that writes them.
 //
-// A field may run over the end of the slice: the bits there are 0.
+// A field that is read may run over the end of the slice: the bits there are 0.
 ghost use mathlib.Core.Path.{_≡_};
 ghost use Prim.Native.Nat.{_+_, _-_, _*_, _/_, _%_, _<_, _≤_, _^_};
 ghost use lib.ListN.{getD, length};
-ghost use Rattle.bits.specs.Field.{fieldAt, twosComplement};
-ghost use Rattle.bits.specs.Inner.{Taken, TakenSigned};
+ghost use Rattle.integers.specs.Within.{Within};
+ghost use Rattle.bits.specs.Field.{fieldAt, twosComplement, complementOf};
+ghost use Rattle.bits.specs.Inner.{Taken, TakenSigned, Tidy, Room, Put};
 
 // A position in a string of bits, counted from the first byte's highest bit.
 pub struct Cursor {
@@ -130,4 +131,62 @@ fn sign_extend(n: u32, width: usize) -> i64
     } else {
         n as i64 - (half + half) as i64
     }
+}
+
+// What has been written of a string of bits: so many whole bytes, and less than a byte more, which is held back.
+pub struct Pen {
+    pub at: usize,
+    pub bits: usize,
+    pub held: u64,
+}
+
+impl Pen {
+    // The pen at the first bit.
+    pub fn new() -> Pen
+        ensures { λ r. ⌜ (r .at ≡ 0) × (r .bits ≡ 0) × (r .held ≡ 0) ⌝ }
+    {
+        Pen {
+            at: 0,
+            bits: 0,
+            held: 0,
+        }
+    }
+
+    // Puts an unsigned field of `width` bits, and hands the pen behind it back. Whole bytes go out at once.
+    pub fn put(mut self, out: &mut [u8], width: usize, value: u64) -> Pen
+        requires { ⌜ Room (now out) self width × (value < 2 ^ width) ⌝ }
+        ensures { λ r. ⌜ Put (now (out .entry)) self width value (now (out .exit)) r ⌝ }
+    {
+        let mut at = self.at;
+        let mut bits = self.bits + width;
+        let mut held = (self.held << width) + value;
+        while bits >= 8 {
+            bits -= 8;
+            let byte = held >> bits;
+            out[at] = byte as u8;
+            at += 1;
+            held = held % (1u64 << bits);
+        }
+        self.at = at;
+        self.bits = bits;
+        self.held = held;
+        self
+    }
+
+    // Puts a signed field of `width` bits.
+    pub fn put_signed(self, out: &mut [u8], width: usize, value: i64) -> Pen
+        requires { ⌜ Room (now out) self width × (1 ≤ width) × Within (2 ^ width) value ⌝ }
+        ensures { λ r. ⌜ Put (now (out .entry)) self width (complementOf width value) (now (out .exit)) r ⌝ }
+    {
+        self.put(out, width, complement(value, width))
+    }
+}
+
+// A number as an unsigned one of `width` bits, in two's complement. No branch: a sign costs no more than none.
+fn complement(x: i64, width: usize) -> u64
+    requires { ⌜ (width ≤ 25) × Within (2 ^ width) x ⌝ }
+    ensures { λ r. ⌜ (r ≡ complementOf width x) × (r < 2 ^ width) ⌝ }
+{
+    let whole = 1u64 << width;
+    (x + whole as i64) as u64 % whole
 }
