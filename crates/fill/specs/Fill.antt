@@ -5,7 +5,7 @@ use Prim.Native.Nat.{ℕ}
 use lib.Dec.{leb}
 use lib.ListN.{length, drop}
 use Rattle.geometry.specs.declared.Triangle.{Triangle}
-use Rattle.refusal.specs.Limit.{Answer, gives, refused, saidLimit}
+use Rattle.refusal.specs.Limit.{Answer, gives, saidLimit, unlessRefused}
 use Rattle.refusal.specs.Questions.{Question, _asks_, answered}
 use Rattle.grid.specs.declared.Grid.{Grid}
 use Rattle.grid.specs.declared.Lattice.{Lattice}
@@ -50,11 +50,6 @@ fillQuestions s len = fileQuestions s ++ (mapQuestion (gridOf s) len ∷ [])
 -- A fill gives the number of filled cells.
 unfoldable pub filling : (file map : List ℕ) → Answer ℕ
 filling s m = answered (fillQuestions s (length m)) (countBelow (filledIn s) (cellCount (gridOf s)))
-
--- Bytes that a call replaces. After a refusal they are what they were.
-abbrev pub unlessRefused : {A : Type 0} → Answer A → (new old : List ℕ) → List ℕ
-unlessRefused (gives a) new old = new
-unlessRefused (refused n p) new old = old
 
 -- The fill replaces the map by that of the file. The bytes behind it are what they were.
 unfoldable pub filledBytes : (file map : List ℕ) → List ℕ

@@ -1,7 +1,8 @@
--- The limits that an input may break, by the numbers of document 01, and what a call says. Definitions only.
+-- The limits that an input may break, by the numbers of documents 01 and 02, and what a call says. Definitions only.
+use mathlib.Core.List.{List}
 use Prim.Native.Nat.{ℕ}
 use Rattle.refusal.specs.declared.Limit.{Limit}
-use Rattle.refusal.specs.declared.Limit.the-variants.{ShortHeader, Version, ZeroEdge, ReservedBits, Extent, FileLength, UnusedKind, ShortMap, PointCount, PointOutside}
+use Rattle.refusal.specs.declared.Limit.the-variants.{ShortHeader, Version, ZeroEdge, ReservedBits, Extent, FileLength, UnusedKind, ShortMap, PointCount, PointOutside, ShortOutput, Unwritable}
 use Rattle.refusal.specs.declared.Refusal.{Refusal}
 
 -- What a call says: it gives what was asked for; or it is refused, with a number and a place only.
@@ -24,7 +25,14 @@ refusalOf (UnusedKind i) = numbered 7 i
 refusalOf ShortMap = numbered 8 0
 refusalOf PointCount = numbered 9 0
 refusalOf (PointOutside m) = numbered 10 m
+refusalOf ShortOutput = numbered 11 0
+refusalOf Unwritable = numbered 12 0
 
 -- What a call says that is refused for a limit.
 abbrev pub saidLimit : {A : Type 0} → Limit → Answer A
 saidLimit l = refused (refusalOf l .number) (refusalOf l .place)
+
+-- Bytes that a call replaces. After a refusal they are what they were.
+abbrev pub unlessRefused : {A : Type 0} → Answer A → (new old : List ℕ) → List ℕ
+unlessRefused (gives a) new old = new
+unlessRefused (refused n p) new old = old

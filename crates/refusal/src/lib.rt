@@ -14,6 +14,8 @@ pub enum Limit {
     ShortMap,
     PointCount,
     PointOutside(usize),
+    ShortOutput,
+    Unwritable,
 }
 
 // What a refused call says: the number of the first limit broken, and the place.
@@ -45,6 +47,8 @@ impl Limit {
             Limit::ShortMap => numbered(8, 0),
             Limit::PointCount => numbered(9, 0),
             Limit::PointOutside(m) => numbered(10, m),
+            Limit::ShortOutput => numbered(11, 0),
+            Limit::Unwritable => numbered(12, 0),
         }
     }
 }

@@ -9,7 +9,7 @@ use mathlib.Core.Path.{_≡_, sym, ap, subst, _∙_}
 use Prim.Native.Nat.{ℕ, _<_, _≤_}
 use borrow.Author.Tests.{leb-true, le-leb, lt-leb}
 use lib.ListN.{length, drop, replicate}
-use Rattle.refusal.specs.Limit.{Answer, gives, refused}
+use Rattle.refusal.specs.Limit.{Answer, gives, refused, unlessRefused}
 use Rattle.refusal.specs.Questions.{answered}
 use Rattle.refusal.specs.Inner.{passed, asked}
 use Rattle.refusal.proofs.Asking.{stopped, through, first-append, both-passed, passed-head, passes, refuses, asked-given, asked-refused}
@@ -19,7 +19,7 @@ use Rattle.map.specs.Map.{mapLength, isFilled, countBelow}
 use Rattle.frame.specs.File.{headerOf}
 use Rattle.frame.specs.Questions.{fileQuestions, checked}
 use Rattle.frame.proofs.Accepted.{header-is}
-use Rattle.fill.specs.Fill.{gridOf, mapQuestion, fillQuestions, unlessRefused}
+use Rattle.fill.specs.Fill.{gridOf, mapQuestion, fillQuestions}
 use Rattle.fill.specs.Part.{filledFrom}
 use Rattle.fill.proofs.Answers.{file-refused, map-asked}
 use Rattle.steps.specs.Steps.{present, beginning, begunBytes, joining, withCells, joinedBytes, ending}

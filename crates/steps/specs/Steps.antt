@@ -4,12 +4,12 @@ use mathlib.Core.List.{List, [], _∷_, _++_}
 use Prim.Native.Nat.{ℕ, _+_, _-_, _*_}
 use lib.Dec.{leb, ltb}
 use lib.ListN.{length, drop, replicate}
-use Rattle.refusal.specs.Limit.{Answer, gives, saidLimit}
+use Rattle.refusal.specs.Limit.{Answer, gives, saidLimit, unlessRefused}
 use Rattle.refusal.specs.Questions.{answered}
 use Rattle.grid.specs.Grid.{cellCount}
 use Rattle.map.specs.Map.{mapLength, isFilled, countBelow, mapOf}
 use Rattle.frame.specs.File.{headerOf}
-use Rattle.fill.specs.Fill.{gridOf, anyOf, fillQuestions, unlessRefused}
+use Rattle.fill.specs.Fill.{gridOf, anyOf, fillQuestions}
 use Rattle.fill.specs.Part.{filledFrom}
 use Rattle.steps.specs.declared.Step.{Step}
 use Rattle.steps.specs.declared.Step.the-variants.{Done, Refused}
