@@ -30,8 +30,8 @@ fn axis_fits(farthest: i64, origin: i64, cells: usize, edge: i64) -> bool
     far <= farthest
 }
 
-// Does the grid end within the farthest coordinate on every axis?
-fn extent_fits(farthest: i64, g: Grid) -> bool
+// Does the grid end within the farthest coordinate on every axis? A writer asks it too.
+pub fn extent_fits(farthest: i64, g: Grid) -> bool
     requires { ⌜ GridWithin (2 ^ 24) (2 ^ 25) g ⌝ }
     ensures { λ r. ⌜ r ≡ extentFits farthest g ⌝ }
 {

@@ -1,0 +1,3 @@
+pub mod Writing
+-- inner
+pub mod Put
