@@ -1,0 +1,112 @@
+// Writes frame files: from a grid's values and a list of triangles, ten numbers each.
+use layout::Layout;
+use refusal::Limit;
+use refusal::Verdict;
+ghost use mathlib.Core.Bool.{true};
+ghost use mathlib.Core.List.{_++_};
+ghost use mathlib.Core.Path.{_≡_};
+ghost use Prim.Native.Nat.{_*_, _<_, _≤_};
+ghost use lib.ListN.{length, take, drop};
+ghost use Rattle.refusal.specs.Inner.{saidVerdict, passed, asked};
+ghost use Rattle.layout.specs.Layout.{recordStart};
+ghost use Rattle.layout_write.specs.Put.{WritableLayout};
+ghost use Rattle.writable.specs.Fits.{triangleNumbers, allBelow, triangleFits};
+ghost use Rattle.frame_write.specs.Write.{headerToWrite, triangleCount, writeQuestions, recordsBytes, fileBytes, writing, writtenBytes, saidWritten};
+
+// A grid's values: cells along x, y and z, cell edge, and the origin.
+pub struct GridValues {
+    pub nx: i32,
+    pub ny: i32,
+    pub nz: i32,
+    pub edge: i32,
+    pub x: i32,
+    pub y: i32,
+    pub z: i32,
+}
+
+// What a writing answers: the file's length, or the first limit broken.
+pub enum Written {
+    Length(usize),
+    Refused(Limit),
+}
+
+// Writes the file of a grid and its triangles to the start of `out`.
+pub fn write(grid: GridValues, triangles: &[i32], out: &mut [u8]) -> Written
+    ensures { λ r. ⌜ (saidWritten r ≡ writing grid (now (triangles .entry)) (length (now (out .entry)))) × (now (out .exit) ≡ writtenBytes grid (now (triangles .entry)) (now (out .entry))) ⌝ }
+{
+    let layout = layout::version_1();
+    match check(layout, grid, triangles, out.len()) {
+        Verdict::Broken(limit) => Written::Refused(limit),
+        Verdict::Passed => Written::Length(put_file(layout, grid, triangles, out)),
+    }
+}
+
+// Puts the questions in turn: the values, then the room.
+fn check(layout: Layout, grid: GridValues, triangles: &[i32], room: usize) -> Verdict
+    requires { ⌜ WritableLayout layout ⌝ }
+    ensures { λ r. ⌜ saidVerdict r ≡ asked (writeQuestions layout grid (now (triangles .entry)) room) ⌝ }
+{
+    let count = triangles.len() / 10;
+    if 4095 < count {
+        return Verdict::Broken(Limit::Unwritable);
+    }
+    if !writable::header_fits(layout, &header_numbers(grid, count)) {
+        return Verdict::Broken(Limit::Unwritable);
+    }
+    if triangles.len() % 10 != 0 {
+        return Verdict::Broken(Limit::Unwritable);
+    }
+    if !writable::triangles_fit(layout, triangles, count) {
+        return Verdict::Broken(Limit::Unwritable);
+    }
+    if room < layout::record_start(layout, count) {
+        return Verdict::Broken(Limit::ShortOutput);
+    }
+    Verdict::Passed
+}
+
+// The numbers of the header that is written.
+fn header_numbers(grid: GridValues, count: usize) -> [i32; 10]
+    requires { ⌜ count < 4096 ⌝ }
+    ensures { λ r. ⌜ r ≡ headerToWrite grid count ⌝ }
+{
+    [
+        1,
+        grid.nx,
+        grid.ny,
+        grid.nz,
+        grid.edge,
+        grid.x,
+        grid.y,
+        grid.z,
+        count as i32,
+        0,
+    ]
+}
+
+// Writes a file that passed all questions, and answers its length.
+fn put_file(layout: Layout, grid: GridValues, triangles: &[i32], out: &mut [u8]) -> usize
+    requires { ⌜ WritableLayout layout × (asked (writeQuestions layout grid (now triangles) (length (now out))) ≡ passed) ⌝ }
+    ensures { λ r. ⌜ (r ≡ recordStart layout (triangleCount (now (triangles .entry)))) × (now (out .exit) ≡ fileBytes layout grid (now (triangles .entry)) ++ drop (recordStart layout (triangleCount (now (triangles .entry)))) (now (out .entry))) ⌝ }
+{
+    let count = triangles.len() / 10;
+    let head = layout.header;
+    layout_write::put_header(layout, &mut out[..head], &header_numbers(grid, count));
+    put_records(layout, triangles, count, out);
+    layout::record_start(layout, count)
+}
+
+// Writes the records behind the header's place.
+fn put_records(layout: Layout, triangles: &[i32], count: usize, out: &mut [u8])
+    requires { ⌜ WritableLayout layout × (count < 4096) × (length (now triangles) ≡ count * 10) × (recordStart layout count ≤ length (now out)) × (allBelow (λ i. triangleFits layout (triangleNumbers (now triangles) i)) count ≡ true) ⌝ }
+    ensures { λ _. ⌜ now (out .exit) ≡ take (layout .header) (now (out .entry)) ++ (recordsBytes layout (now (triangles .entry)) count ++ drop (recordStart layout count) (now (out .entry))) ⌝ }
+{
+    let mut i = 0;
+    while i < count {
+        let start = layout::record_start(layout, i);
+        let end = start + layout.stride;
+        let first = i * 10;
+        layout_write::put_record(layout, &mut out[start..end], &triangles[first..first + 10]);
+        i += 1;
+    }
+}

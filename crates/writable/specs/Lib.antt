@@ -1,0 +1,3 @@
+pub mod Fits
+-- inner
+pub mod Inner
