@@ -1,5 +1,5 @@
 -- A packed answer, as the caller unpacks it.
---     counted, tested, taken     a count, a route test with what demand 3 says of it, a plain reading
+--     tested, taken     a route test with what demand 3 says of it, a plain reading
 -- Assumes nothing.
 use mathlib.Core.List.{List}
 use mathlib.Core.Path.{_≡_, ap, ap₂, _∙_}
@@ -10,15 +10,10 @@ use Rattle.frame.specs.Questions.{reading}
 use Rattle.demand.specs.Route.{routeAnswer}
 use Rattle.demand.specs.Demand.{DemandOf}
 use Rattle.demand.proofs.Demand.{demand-of}
-use Rattle.stall.specs.Calls.{packedCount, unpackedCount, packedRoute, unpackedRoute, roomed, packedReading, unpackedReading}
-use Rattle.refusal.specs.Limit.{Answer}
-use Rattle.pack.proofs.Unpack.{Fits}
+use Rattle.stall.specs.Calls.{packedRoute, unpackedRoute, roomed, packedReading, unpackedReading}
 use Rattle.numbers.specs.Numbers.{readNumbers, written}
-use Rattle.stall.proofs.Unpack.{FitsCount, count-back, route-back, reading-back}
+use Rattle.stall.proofs.Unpack.{route-back, reading-back}
 use Rattle.stall.proofs.Fitting.{route-fits, reading-fits}
-
-pub counted : {a : Answer ℕ} {r : ℕ} → Fits FitsCount a → r ≡ packedCount a → unpackedCount r ≡ a
-counted {a} fits e = ap unpackedCount e ∙ count-back a fits
 
 pub tested : (s m : List ℕ) (ns : List ℤ) {r : ℕ} → r ≡ packedRoute (routeAnswer s m ns)
     → (r ≡ packedRoute (routeAnswer s m ns)) × (unpackedRoute r ≡ routeAnswer s m ns) × DemandOf s m ns (unpackedRoute r)

@@ -1,5 +1,4 @@
 -- The numbers of the calls' answers fit the bits that they are packed into.
---     answered-fits                           by the numbers and places of the questions
 --     filling-fits, beginning-fits, …         each call
 -- Assumes nothing.
 use mathlib.Core.Bool.{Bool, true, false, _&&_, and-eq-true-iff}
@@ -32,36 +31,12 @@ use Rattle.steps.proofs.Joined.{present-most}
 use Rattle.demand.specs.Route.{pointCount, pointsOf, Finding, free, blocked, tested, countFits, pointQuestion, pointQuestions, routeAnswer}
 use Rattle.demand.proofs.Points.{points-length}
 use Rattle.demand.proofs.Demand.{blocked-in}
-use Rattle.stall.proofs.Unpack.{FitsCount, FitsFinding, FitsAlways}
-use Rattle.pack.proofs.Unpack.{Fits}
+use Rattle.pack.proofs.Unpack.{Fits, FitsCount, FitsAlways}
+use Rattle.pack.proofs.Fitting.{FitAll, fit-append, fit-each, answered-fits}
+use Rattle.stall.proofs.Unpack.{FitsFinding}
 
 -- ---- questions
-abbrev FitsQuestion : Question → Type 0
-FitsQuestion q = (q .number < 2 ^ 8) × (q .place < 2 ^ 32)
-
-abbrev FitAll : List Question → Type 0
-FitAll [] = Unit {0}
-FitAll (q ∷ qs) = FitsQuestion q × FitAll qs
-
-fit-append : (a b : List Question) → FitAll a → FitAll b → FitAll (a ++ b)
-fit-append [] b f g = g
-fit-append (q ∷ a) b f g = (f .0, fit-append a b (f .1) g)
-
-fit-each : (q : ℕ → Question) (n : ℕ) → ((i : ℕ) → i < n → FitsQuestion (q i)) → FitAll (ofEach q n)
-unfolding ofEach
-fit-each q zero f = tt
-fit-each q (suc n) f = fit-append (ofEach q n) (q n ∷ []) (fit-each q n (λ i l. f i (omega arith))) (f n (omega arith), tt)
-
 module _ {A : Type 0} (P : A → Type 0) where
-  answered-fits : (x : A) (qs : List Question) → FitAll qs → P x → Fits P (answered qs x)
-  unfolding answered
-  answered-fits x [] f h = h
-  answered-fits x (q ∷ qs) f h = go (q .holds) refl (answered-fits x qs (f .1) h)
-    where
-      go : (b : Bool) → q .holds ≡ b → Fits P (answered qs x) → Fits P (answered (q ∷ qs) x)
-      go true e r = subst (Fits P) (sym (through x q qs e)) r
-      go false e r = subst (Fits P) (sym (stopped x q qs e)) (f .0)
-
   then-fits : (v : Passing) (w : Answer A) → Fits FitsAlways v → Fits P w → Fits P (andThen v w)
   then-fits (gives u) w f g = g
   then-fits (refused n p) w f g = f

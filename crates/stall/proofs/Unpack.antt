@@ -1,5 +1,5 @@
 -- The answers that were packed come back.
---     count-back, route-back, reading-back
+--     route-back, reading-back
 -- Assumes nothing.
 use mathlib.Core.Bool.{Bool, true, false, cond}
 use mathlib.Core.List.{List, _++_}
@@ -11,32 +11,21 @@ use lib.ListN.{length, drop}
 use Rattle.refusal.specs.Limit.{Answer, gives, refused}
 use Rattle.frame.specs.Questions.{Contents}
 use Rattle.demand.specs.Route.{Finding, free, blocked}
-use Rattle.pack.proofs.Unpack.{tag-back, leg-back, low-back, Fits, refusal-back}
-use Rattle.stall.specs.Calls.{packedCount, unpackedCount, packedRoute, unpackedRoute, wrote, short, roomed, packedReading, unpackedReading}
+use Rattle.pack.proofs.Unpack.{tag-back, leg-back, low-back, Fits, FitsAlways, refusal-back}
+use Rattle.stall.specs.Calls.{packedRoute, unpackedRoute, wrote, short, roomed, packedReading, unpackedReading}
 use Rattle.numbers.specs.Numbers.{contentsNumbers, readNumbers, numbersIn, written}
 use Rattle.numbers.proofs.Back.{contents-back, numbers-count, numbers-few}
 
 -- ---- what fits
-abbrev pub FitsCount : ℕ → Type 0
-FitsCount n = n < 2 ^ 32
-
 abbrev pub FitsFinding : Finding → Type 0
 FitsFinding free = Unit {0}
 FitsFinding (blocked m n) = (m < 2 ^ 16) × (n < 2 ^ 32)
-
-pub count-back : (a : Answer ℕ) → Fits FitsCount a → unpackedCount (packedCount a) ≡ a
-unfolding unpackedCount
-count-back (gives n) h = rw (tag-back 0 0 0 n) (ap gives (low-back 0 0 0 n h))
-count-back (refused n p) h = rw (tag-back 1 n 0 p) (refusal-back n p h)
 
 pub route-back : (a : Answer Finding) → Fits FitsFinding a → unpackedRoute (packedRoute a) ≡ a
 unfolding unpackedRoute
 route-back (gives free) h = refl
 route-back (gives (blocked m n)) h = rw (tag-back 3 0 m n) (ap₂ (λ (i k : ℕ). gives (blocked i k)) (leg-back 3 0 m n (h .0)) (low-back 3 0 m n (h .1)))
 route-back (refused n p) h = rw (tag-back 1 n 0 p) (refusal-back n p h)
-
-abbrev pub FitsAlways : {A : Type 0} → A → Type 0
-FitsAlways a = Unit {0}
 
 pub reading-back : (a : Answer Contents) (out : List ℤ) → Fits FitsAlways a
     → unpackedReading (packedReading (roomed a (length out))) (written (readNumbers a) out) ≡ roomed a (length out)

@@ -10,13 +10,7 @@ use Rattle.demand.specs.Route.{Finding, free, blocked}
 use Rattle.numbers.specs.Numbers.{numbersIn, contentsFrom}
 use Rattle.pack.specs.Pack.{packed, tagOf, legOf, lowOf, packedRefusal, orRefusal}
 
--- ---- a fill, or a step of one: tag 0 and a count, or the refusal
-abbrev pub packedCount : Answer ℕ → ℕ
-packedCount (gives n) = packed 0 0 0 n
-packedCount (refused n p) = packedRefusal n p
-
-unfoldable pub unpackedCount : ℕ → Answer ℕ
-unpackedCount r = orRefusal r (gives (lowOf r))
+-- A fill, or a step of one, gives a count: `pack` says how that is packed.
 
 -- ---- a route test: tag 2 alone for a free route, tag 3 with the leg and the cell for a blocked one, or the refusal
 abbrev pub packedRoute : Answer Finding → ℕ

@@ -16,7 +16,8 @@ ghost use Rattle.demand.specs.Route.{routeAnswer};
 ghost use Rattle.demand.specs.Demand.{DemandOf};
 ghost use Rattle.numbers.specs.Numbers.{headerNumbers, recordNumbers, readNumbers, written};
 ghost use Rattle.numbers.specs.Inner.{Small};
-ghost use Rattle.stall.specs.Calls.{packedCount, unpackedCount, packedRoute, unpackedRoute, roomed, packedReading, unpackedReading};
+ghost use Rattle.pack.specs.Pack.{packedCount, unpackedCount};
+ghost use Rattle.stall.specs.Calls.{packedRoute, unpackedRoute, roomed, packedReading, unpackedReading};
 
 // The fill. The answer is the number of filled cells, with 0 in the top byte; or 1 in the top byte, the limit's number
 // in the next, and the place in the low 32 bits.

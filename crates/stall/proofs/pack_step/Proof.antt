@@ -3,7 +3,7 @@ use borrow.Author.Needs.{needs}
 use mathlib.Core.Path.{sym, ap, _∙_}
 use Rattle.steps.specs.declared.Step.{Step}
 use Rattle.steps.specs.Steps.{saidStep}
-use Rattle.stall.specs.Calls.{packedCount}
+use Rattle.pack.specs.Pack.{packedCount}
 use Rattle.stall.proofs.pack_step.Statement.{statement}
 use Rattle.stall.proofs.pack_step.Tie as tie
 

@@ -2,8 +2,8 @@
 use borrow.Author.Needs.{needs}
 use mathlib.Core.Path.{sym, ap, _∙_}
 use Rattle.fill.specs.Fill.{saidFilling}
-use Rattle.stall.specs.Calls.{packedCount}
-use Rattle.stall.proofs.Answers.{counted}
+use Rattle.pack.specs.Pack.{packedCount}
+use Rattle.pack.proofs.Unpack.{counted}
 use Rattle.stall.proofs.Fitting.{filling-fits}
 use Rattle.stall.proofs.stall_fill.Statement.{statement}
 use Rattle.stall.proofs.stall_fill.Tie as tie

@@ -1,8 +1,8 @@
 -- `stall::stall_fill_some` meets its contract. Assumes nothing.
 use borrow.Author.Needs.{needs}
 use mathlib.Core.Path.{ap, _∙_}
-use Rattle.stall.specs.Calls.{packedCount}
-use Rattle.stall.proofs.Answers.{counted}
+use Rattle.pack.specs.Pack.{packedCount}
+use Rattle.pack.proofs.Unpack.{counted}
 use Rattle.stall.proofs.Fitting.{joining-fits}
 use Rattle.stall.proofs.stall_fill_some.Statement.{statement}
 use Rattle.stall.proofs.stall_fill_some.Tie as tie
