@@ -5,7 +5,7 @@
 --     length-bytes, bytes-field    how many bytes a number has; and the number of the first bytes, as bytes
 -- Assumes nothing.
 use mathlib.Core.Path.{_≡_, refl, sym, ap, _∙_}
-use mathlib.Core.List.{List, [], _∷_, _++_}
+use mathlib.Core.List.{List, [], _∷_}
 use Prim.Native.Nat.{ℕ, zero, suc, _+_, _-_, _*_, _/_, _%_, _^_, _<_, _≤_}
 use native.Mathlib.Nat.{mul-assoc, add-mul, mod-lt, mul-le-mul-right, lt-of-lt-of-le}
 use native.Mathlib.Numerals.{add-one}
@@ -15,7 +15,7 @@ use lib.Pow.{pow-pos, pow-add, shl-exact, shr-lt, split, pow-mono}
 use lib.Seq.{getD-set-same, getD-set-other, drop-set-lt, drop-drop, take-suc}
 use Rattle.bits.specs.declared.Pen.{Pen}
 use Rattle.bits.specs.Field.{bitAt, fieldAt, bytesOf}
-use Rattle.bits.specs.Inner.{penBits, penNumber, Tidy, Room}
+use Rattle.bits.specs.Inner.{penBits, penNumber, Room}
 use Rattle.bits.proofs.Fields.{field-split, byte-field, one-shl}
 
 pub field-same : (s t : List ℕ) (n : ℕ) → ((j : ℕ) → j < n → getD s j 0 ≡ getD t j 0) → (p w : ℕ) → p + w ≤ n * 8 → fieldAt s p w ≡ fieldAt t p w

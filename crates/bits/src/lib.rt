@@ -6,7 +6,7 @@ ghost use Prim.Native.Nat.{_+_, _-_, _*_, _/_, _%_, _<_, _≤_, _^_};
 ghost use lib.ListN.{getD, length};
 ghost use Rattle.integers.specs.Within.{Within};
 ghost use Rattle.bits.specs.Field.{fieldAt, twosComplement, complementOf};
-ghost use Rattle.bits.specs.Inner.{Taken, TakenSigned, Tidy, Room, Put};
+ghost use Rattle.bits.specs.Inner.{Taken, TakenSigned, Room, Put};
 
 // A position in a string of bits, counted from the first byte's highest bit.
 pub struct Cursor {

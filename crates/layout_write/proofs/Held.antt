@@ -7,7 +7,7 @@
 use mathlib.Core.Bool.{Bool, true, false, true≢false, _&&_, and-eq-true-iff}
 use mathlib.Core.List.{List, [], _∷_}
 use mathlib.Core.Path.{_≡_, refl, sym, ap}
-use Prim.Native.Nat.{ℕ, zero, suc, _+_, _-_, _^_, _<_, _≤_}
+use Prim.Native.Nat.{ℕ, zero, suc, _-_, _^_, _<_, _≤_}
 use native.Mathlib.Omega.{arith}
 use lib.IntN.{ℤ, pos, negℤ, natAbs, _-ℤ_}
 use lib.ListN.{length, getD}
@@ -15,7 +15,7 @@ use lib.Signed.{_≤ℤ_, leZ}
 use Rattle.integers.specs.Within.{Within}
 use Rattle.integers.proofs.Omega.{zarith, -!, neg!, abs! }
 use Rattle.layout.specs.Layout.{FieldForm, field, plain, lessOne, signed}
-use Rattle.layout_write.specs.Writing.{least, greatest, canHold, canHoldAll}
+use Rattle.layout_write.specs.Writing.{canHold, canHoldAll}
 
 pub both : (a b : Bool) → a && b ≡ true → (a ≡ true) × (b ≡ true)
 both a b h = and-eq-true-iff a b .0 h

@@ -4,13 +4,13 @@
 --     puttable      so the next number can be put
 -- Assumes nothing.
 use mathlib.Core.Bool.{true}
-use mathlib.Core.List.{List, _++_}
+use mathlib.Core.List.{List}
 use mathlib.Core.Path.{_≡_, refl, sym, ap, _∙_}
 use Prim.Native.Nat.{ℕ, _+_, _-_, _*_, _^_, _<_, _≤_}
 use native.Mathlib.Omega.{arith}
 use lib.IntN.{ℤ, pos}
-use lib.ListN.{length, getD, take, drop}
-use lib.Seq.{drop-drop, take-all}
+use lib.ListN.{length, getD}
+use lib.Seq.{take-all}
 use Rattle.bits.specs.declared.Pen.{Pen}
 use Rattle.bits.specs.Field.{fieldAt, bytesOf}
 use Rattle.bits.specs.Inner.{penBits, penNumber, Tidy, Put}

@@ -2,9 +2,9 @@
 --     filling-fits, beginning-fits, …         each call
 -- Assumes nothing.
 use mathlib.Core.Bool.{Bool, true, false, _&&_, and-eq-true-iff}
-use mathlib.Core.List.{List, [], _∷_, _++_}
+use mathlib.Core.List.{List, [], _∷_}
 use mathlib.Core.Path.{_≡_, refl, sym, subst}
-use Prim.Native.Nat.{ℕ, zero, suc, _*_, _%_, _^_, _<_, _≤_}
+use Prim.Native.Nat.{ℕ, _*_, _%_, _^_, _<_, _≤_}
 use native.Mathlib.Nat.{mul-le-mul}
 use native.Mathlib.Omega.{arith}
 use borrow.Author.Tests.{leb-true}
@@ -15,7 +15,7 @@ use Rattle.layout.specs.declared.Header.{Header}
 use Rattle.layout.specs.Layout.{version1}
 use Rattle.frame.specs.File.{headerOf}
 use Rattle.refusal.specs.Limit.{Answer, gives, refused}
-use Rattle.refusal.specs.Questions.{Question, answered, ofEach}
+use Rattle.refusal.specs.Questions.{answered, ofEach}
 use Rattle.refusal.specs.Inner.{Passing, asked}
 use Rattle.frame.specs.Questions.{fileQuestions, headerQuestions, kindQuestion, reading}
 use Rattle.refusal.proofs.Asking.{stopped, through, andThen, first-append}

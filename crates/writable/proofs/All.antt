@@ -5,7 +5,7 @@
 --     held-of               each field can hold its number, so all can
 --     header-held           the bounds of all fields say what the fields can hold
 -- Assumes nothing.
-use mathlib.Core.Bool.{Bool, true, false, true≢false, _&&_, and-eq-true-iff}
+use mathlib.Core.Bool.{Bool, true, false, true≢false, and-eq-true-iff}
 use mathlib.Core.List.{List, [], _∷_}
 use mathlib.Core.Path.{_≡_, refl, sym, _∙_}
 use Prim.Native.Nat.{ℕ, zero, suc, _+_, _<_}
@@ -16,7 +16,7 @@ use lib.IntN.{ℤ, pos}
 use lib.ListN.{length, getD}
 use Rattle.integers.proofs.Truth.{same-truth}
 use Rattle.layout.specs.Layout.{FieldForm, field, plain}
-use Rattle.layout_write.specs.Writing.{least, greatest, between, canHold, canHoldAll}
+use Rattle.layout_write.specs.Writing.{between, canHold, canHoldAll}
 use Rattle.layout_write.proofs.Held.{held-at}
 use Rattle.writable.specs.Fits.{allBelow}
 use Rattle.writable.specs.Inner.{leasts, greatests, eachBetween}

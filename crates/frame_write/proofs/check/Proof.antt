@@ -1,10 +1,9 @@
 -- `frame_write::check` meets its contract: the questions in turn, up to the first "no". Assumes nothing.
 use borrow.Author.Needs.{needs}
 use borrow.Author.Tests.{lt-leb, le-leb, eq-eqb, ne-eqb, not-true, not-false}
-use mathlib.Core.Bool.{true, false}
+use mathlib.Core.Bool.{true}
 use mathlib.Core.Path.{_≡_, refl, sym, ap, _∙_}
-use Prim.Native.Nat.{ℕ, _*_, _/_, _%_}
-use native.Mathlib.Omega.{arith}
+use Prim.Native.Nat.{_%_}
 use lib.Dec.{eqb}
 use lib.ListN.{length}
 use Rattle.refusal.specs.Questions.{answered}

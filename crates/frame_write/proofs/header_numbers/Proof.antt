@@ -2,13 +2,9 @@
 use borrow.Author.Needs.{needs}
 use mathlib.Core.List.{_∷_, []}
 use native.Mathlib.Omega.{arith}
-use lib.IntN.{ℤ, pos}
-use lib.Signed.{mag}
-use mathlib.Core.Path.{_≡_}
-use Prim.Native.Nat.{_^_, _<_}
+use lib.IntN.{pos}
 use mir.Facts.{toZ-pos}
 use mir.Syntax.{w32}
-use mir.Val.{toZ, ofZ}
 use Rattle.integers.proofs.Machine.{back}
 use Rattle.frame_write.proofs.header_numbers.Statement.{statement}
 use Rattle.frame_write.proofs.header_numbers.Tie as tie

@@ -1,16 +1,15 @@
 -- `frame_write::put_records` meets its contract: record by record, each behind the one before. Assumes nothing.
 use borrow.Author.Needs.{needs}
-use mathlib.Core.Bool.{true, and-eq-true-iff}
+use mathlib.Core.Bool.{and-eq-true-iff}
 use mathlib.Core.List.{List, _++_}
 use mathlib.Core.Path.{_≡_, refl, sym, ap, _∙_}
 use Prim.Native.Nat.{ℕ, _+_, _*_, _-_, _≤_}
 use native.Mathlib.Omega.{arith}
-use lib.IntN.{ℤ}
 use lib.ListN.{length, take, drop, take-append-drop}
 use borrow.Rule.Slice.PartMut.{putMid, same-len-mid}
 use Rattle.layout.specs.Layout.{recordStart, recordFields}
 use Rattle.layout_write.specs.Writing.{canHoldAll, recordBytes}
-use Rattle.writable.specs.Fits.{triangleNumbers, triangleFits}
+use Rattle.writable.specs.Fits.{triangleNumbers}
 use Rattle.writable.proofs.All.{all-at}
 use Rattle.frame_write.specs.Write.{concatBelow, recordsBytes}
 use Rattle.frame_write.proofs.Pieces.{piece-room, piece-more, length-part, length-record}

@@ -1,8 +1,5 @@
 -- `writable::between` meets its contract. Assumes nothing.
-use borrow.Author.Needs.{needs}
-use mathlib.Core.Bool.{true, false}
-use mathlib.Core.Path.{_≡_, refl}
-use lib.Signed.{leZ}
+use mathlib.Core.Path.{refl}
 use mir.Facts.{toZ-ofZ}
 use Rattle.integers.proofs.Omega.{lt-true, lt-false, true-le, false-le}
 use Rattle.writable.proofs.between.Statement.{statement}

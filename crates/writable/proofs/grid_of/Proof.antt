@@ -1,5 +1,4 @@
 -- `writable::grid_of` meets its contract: each number that a header can hold keeps its value. Assumes nothing.
-use borrow.Author.Needs.{needs}
 use mathlib.Core.Path.{_≡_, refl, ap, _∙_}
 use Prim.Native.Nat.{ℕ, _^_, _<_}
 use native.Mathlib.Omega.{arith}

@@ -1,10 +1,9 @@
 -- `writable::header_fits` meets its contract: test by test, up to the first that fails. Assumes nothing.
 use borrow.Author.Needs.{needs}
 use borrow.Author.Tests.{not-true, not-false}
-use mathlib.Core.Bool.{Bool, true, false}
-use mathlib.Core.List.{List}
-use mathlib.Core.Path.{_≡_, refl, sym, ap, _∙_}
-use lib.IntN.{ℤ, pos}
+use mathlib.Core.Bool.{true}
+use mathlib.Core.Path.{_≡_, refl, sym, _∙_}
+use lib.IntN.{pos}
 use lib.ListN.{getD}
 use lib.Signed.{ltZ}
 use mir.Facts.{toZ-ofZ}
@@ -12,7 +11,6 @@ use mir.Syntax.{w64}
 use mir.Val.{toZ, ofZ}
 use Rattle.integers.proofs.Machine.{back}
 use Rattle.integers.proofs.Omega.{le-true, le-false, true-lt, false-lt}
-use Rattle.grid.specs.declared.Grid.{Grid}
 use Rattle.layout.specs.Layout.{headerFields}
 use Rattle.layout_write.specs.Writing.{canHoldAll}
 use Rattle.frame.specs.Questions.{extentFits}
