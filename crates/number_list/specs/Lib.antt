@@ -1,0 +1,3 @@
+pub mod Numbers
+-- inner
+pub mod Inner
