@@ -35,8 +35,13 @@ pub fn say(out: &[u8], len: usize) {
 
 // Says the place of an argument that is no number.
 pub fn say_number(place: usize) {
-    io::write_all(STDERR_FILENO, b"NUMBER ");
-    io::print_decimal(STDERR_FILENO, place as u64);
+    say_count(b"NUMBER ", place);
+}
+
+// Says a word and a number.
+pub fn say_count(word: &[u8], n: usize) {
+    io::write_all(STDERR_FILENO, word);
+    io::print_decimal(STDERR_FILENO, n as u64);
     io::write_all(STDERR_FILENO, b"\n");
 }
 
