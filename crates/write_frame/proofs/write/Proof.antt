@@ -1,0 +1,26 @@
+-- `write_frame::write` meets its contract: the part lies in the numbers. Assumes nothing.
+use borrow.Author.Needs.{needs}
+use mathlib.Core.Path.{_≡_, sym}
+use native.Mathlib.Omega.{arith}
+use lib.ListN.{length, take}
+use lib.Seq.{length-take-le}
+use Rattle.write_frame.proofs.write.Statement.{statement}
+use Rattle.write_frame.proofs.write.Tie as tie
+
+part : (c : tie.Then2) → let a = c .before .before .before .args in length (take (a .n) (a .numbers .now)) ≡ a .n
+part c = let a = c .before .before .before .args in length-take-le (a .n) (a .numbers .now) (c .if2 .taken)
+
+pub write-spec : {M : Type 1} → statement M
+write-spec =
+    tie.close
+    (tie.spec
+    (λ c. search needs)
+    (λ c κs. search needs)
+    (λ c. search needs)
+    (λ c. sym (part (c .before)))
+    (λ c κs. (rw (part (c .before .before)) (omega arith), omega arith))
+    (λ c. search needs)
+    (λ c. search needs)
+    (λ c κs. search needs)
+    (λ c. search needs)
+    (λ c. search needs))
