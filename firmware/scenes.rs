@@ -43,7 +43,7 @@ fn whole_file() -> Vec<u8> {
         origin: grid.origin,
         count: records.len(),
     };
-    independent::write(&header, &records)
+    independent::file_of(&header, &records)
 }
 
 fn main() {

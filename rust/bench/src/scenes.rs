@@ -175,7 +175,7 @@ fn write(grid: &Grid, triangles: &[Triangle]) -> Vec<u8> {
     };
     let record = |&corners: &Triangle| Record { kind: 0, corners };
     let records: Vec<Record> = triangles.iter().map(record).collect();
-    independent::write(&header, &records)
+    independent::file_of(&header, &records)
 }
 
 /// The file of a scene for the grid with so many cells a side.

@@ -24,7 +24,7 @@ impl Frame {
             origin: self.origin,
             count: self.triangles.len(),
         };
-        independent::write(&header, &self.triangles)
+        independent::file_of(&header, &self.triangles)
     }
 
     pub fn map_bytes(&self) -> usize {

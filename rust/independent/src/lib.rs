@@ -1,7 +1,7 @@
-//! The scope document in Rust, made apart from the verified library and from everything else here.
+//! The scope document and its change requests in Rust, made apart from the verified libraries and from everything else here.
 //!
-//! It is written to be compared with: each part follows the document's sentences in their order, and nothing is done to be
-//! quick. The library and this crate share no code.
+//! It is written to be compared with: each part follows the documents' sentences in their order, and nothing is done to be
+//! quick. The libraries and this crate share no code.
 
 mod frame;
 mod lister;
@@ -14,7 +14,7 @@ pub use frame::{read, Header, Record};
 pub use lister::list;
 pub use map::fill;
 pub use route::{test_route, Route};
-pub use write::write;
+pub use write::{file_of, write_file};
 
 /// A refused call: the number of the first question answered with "no", and the place.
 #[derive(Clone, Copy, Debug, PartialEq, Eq)]

@@ -1,6 +1,7 @@
 //! The writer of frame files.
 
 use crate::frame::{Header, Record};
+use crate::{question, Refusal};
 
 /// Fields of a value and a width, one behind the other, most significant bit first: the low bits of a word.
 fn packed(fields: impl IntoIterator<Item = (i64, u32)>) -> u128 {
@@ -26,8 +27,61 @@ fn record_bytes(record: &Record) -> [u8; 16] {
 }
 
 /// The file of a header and records. Nothing is checked: the header's count is what it says.
-pub fn write(header: &Header, records: &[Record]) -> Vec<u8> {
+pub fn file_of(header: &Header, records: &[Record]) -> Vec<u8> {
     let mut file = header_bytes(header);
     file.extend(records.iter().flat_map(record_bytes));
     file
+}
+
+/// Three numbers.
+fn three(numbers: &[i32]) -> [i64; 3] {
+    [numbers[0], numbers[1], numbers[2]].map(i64::from)
+}
+
+/// Ten numbers in record order.
+fn record(numbers: &[i32]) -> Record {
+    Record {
+        kind: i64::from(numbers[0]),
+        corners: [1, 4, 7].map(|at| three(&numbers[at..])),
+    }
+}
+
+/// Is a length in its field?
+fn is_length(value: &i64) -> bool {
+    (-8192..=8191).contains(value)
+}
+
+/// Are the grid's values in their fields, and is no far corner above 8,191?
+fn grid_fits(header: &Header) -> bool {
+    header.cells.iter().all(|cells| (1..=64).contains(cells))
+        && (1..=255).contains(&header.edge)
+        && header.origin.iter().all(is_length)
+        && (0..3).all(|axis| header.origin[axis] + header.cells[axis] * header.edge <= 8191)
+}
+
+/// Are a record's values in their fields, and is its kind not 3?
+fn record_fits(record: &Record) -> bool {
+    (0..=2).contains(&record.kind) && record.corners.iter().flatten().all(is_length)
+}
+
+/// Writes the file of grid values (cells, edge, origin) and of triangles, ten numbers each in record order, and answers its
+/// length.
+pub fn write_file(grid: &[i32], triangles: &[i32], out: &mut [u8]) -> Result<usize, Refusal> {
+    question(12, 0, grid.len() == 7)?;
+    let header = Header {
+        version: 1,
+        cells: three(grid),
+        edge: i64::from(grid[3]),
+        origin: three(&grid[4..]),
+        count: triangles.len() / 10,
+    };
+    question(12, 0, grid_fits(&header))?;
+    question(12, 0, header.count <= 4095)?;
+    question(12, 0, triangles.len().is_multiple_of(10))?;
+    let records: Vec<Record> = triangles.chunks(10).map(record).collect();
+    question(12, 0, records.iter().all(record_fits))?;
+    let file = file_of(&header, &records);
+    question(11, 0, out.len() >= file.len())?;
+    out[..file.len()].copy_from_slice(&file);
+    Ok(file.len())
 }

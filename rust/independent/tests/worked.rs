@@ -1,6 +1,6 @@
 //! The worked examples of the scope document.
 
-use independent::{fill, list, read, test_route, write, Header, Record, Refusal, Route};
+use independent::{file_of, fill, list, read, test_route, Header, Record, Refusal, Route};
 
 /// The grid of the worked examples, for one triangle.
 const HEADER: Header = Header {
@@ -14,7 +14,7 @@ const HEADER: Header = Header {
 /// The worked frame with one triangle of kind 0.
 fn file(corners: [i64; 9]) -> Vec<u8> {
     let corners = [0, 3, 6].map(|i| [corners[i], corners[i + 1], corners[i + 2]]);
-    write(&HEADER, &[Record { kind: 0, corners }])
+    file_of(&HEADER, &[Record { kind: 0, corners }])
 }
 
 const G: [i64; 9] = [1, 20, 5, 20, 20, 5, 20, 1, 5];
@@ -37,7 +37,7 @@ fn bytes() {
     let corners = [[-8192, 8191, -1], [0, 1, -2], [8191, -8192, 4095]];
     let records = [0, 1, 2].map(|kind| Record { kind, corners });
     for (i, record) in records.into_iter().enumerate() {
-        let reading = read(&write(&header, &records), i);
+        let reading = read(&file_of(&header, &records), i);
         assert_eq!(reading, Ok((header, Some(record))));
     }
 }
