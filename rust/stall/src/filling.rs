@@ -1,8 +1,8 @@
 //! The fill, at once and in steps.
 
-use crate::answer::{counted, long};
 use crate::library;
-use crate::limit::Refusal;
+use shared::Refusal;
+use shared::answer::{counted, long};
 
 /// Fills the map of a frame file, and gives the number of filled cells. Bytes behind the map keep their contents. A buffer
 /// of [`MAP_MOST`](crate::MAP_MOST) bytes has room for every map.

@@ -40,17 +40,15 @@
 #![no_std]
 #![deny(missing_docs)]
 
-mod answer;
 mod filling;
 pub mod library;
-mod limit;
 mod reading;
 mod route;
 
 pub use filling::{fill, fill_begin, fill_end, fill_some};
-pub use limit::{Limit, Refusal};
-pub use reading::{Header, Kind, NotRead, Reading, Record, read, read_numbers};
+pub use reading::{Header, NotRead, Reading, Record, read, read_numbers};
 pub use route::{Route, test_route, test_route_numbers};
+pub use shared::{Kind, Limit, Refusal};
 
 /// The longest file, in bytes: 4,095 triangles.
 pub const FILE_MOST: usize = 65_532;

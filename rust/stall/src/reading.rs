@@ -1,21 +1,13 @@
 //! The plain reading of a frame file: the header's values and one record.
 
-use crate::answer::{DONE, SHORT, long, low, refusal, tag};
-use crate::limit::Refusal;
 use crate::{Point, READ_NUMBERS, library};
 use core::error::Error;
 use core::fmt::{self, Display, Formatter};
+use shared::answer::{DONE, long, low, refusal, tag};
+use shared::{Kind, Refusal};
 
-/// What a triangle belongs to. All kinds fill cells alike: a gate is an obstacle, open or shut.
-#[derive(Clone, Copy, Debug, PartialEq, Eq, Hash)]
-pub enum Kind {
-    /// 0: the frame.
-    Frame = 0,
-    /// 1: the entry gate.
-    EntryGate = 1,
-    /// 2: the exit gate.
-    ExitGate = 2,
-}
+/// The top byte of the answer that the buffer is too short.
+const SHORT: u8 = 4;
 
 /// The header's values, of a file that is accepted.
 #[derive(Clone, Copy, Debug, PartialEq, Eq, Hash)]

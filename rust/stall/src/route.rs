@@ -1,8 +1,12 @@
 //! The route test.
 
-use crate::answer::{BLOCKED, FREE, leg, long, low, refusal, tag};
-use crate::limit::Refusal;
 use crate::{Point, library};
+use shared::Refusal;
+use shared::answer::{long, low, refusal, tag};
+
+/// The top byte of an answer.
+const FREE: u8 = 2;
+const BLOCKED: u8 = 3;
 
 /// What is said of a route.
 #[derive(Clone, Copy, Debug, PartialEq, Eq, Hash)]
@@ -73,7 +77,7 @@ pub fn test_route_numbers(file: &[u8], map: &[u8], numbers: &[i16]) -> Result<Ro
     match tag(answer) {
         FREE => Ok(Route::Free),
         BLOCKED => Ok(Route::Blocked {
-            leg: leg(answer),
+            leg: usize::from((answer >> 32) as u16),
             cell: low(answer),
         }),
         _ => Err(refusal(answer)),

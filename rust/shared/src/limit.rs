@@ -3,15 +3,17 @@
 use core::error::Error;
 use core::fmt::{self, Display, Formatter};
 
-/// A limit that an input breaks, named by what is wrong with it. The limits are asked for in this order, and the first that
-/// is broken refuses the call. `docs/FORMAT.md` says what to do about each.
+/// A limit that an input breaks, named by what is wrong with it. Limits 1 to 10 are those of `stall`, which asks for them in
+/// this order. Limits 11 and 12 are those of `desk`, which asks for 12 first. The first that is broken refuses the call.
+/// `docs/FORMAT.md` says what to do about each.
 ///
 /// ```
-/// let limit = stall::Limit::from_number(7).unwrap();
-/// assert_eq!(limit, stall::Limit::UnusedKind);
+/// use shared::Limit;
+/// let limit = Limit::from_number(7).unwrap();
+/// assert_eq!(limit, Limit::UnusedKind);
 /// assert_eq!(limit.number(), 7);
 /// assert_eq!(limit.to_string(), "a record has the unused kind 3");
-/// assert_eq!(stall::Limit::from_number(11), None);
+/// assert_eq!(Limit::from_number(13), None);
 /// ```
 #[derive(Clone, Copy, Debug, PartialEq, Eq, PartialOrd, Ord, Hash)]
 #[repr(u8)]
@@ -36,11 +38,16 @@ pub enum Limit {
     PointCount = 9,
     /// 10: a point lies outside the grid. The place is the lowest such point, from 0.
     PointOutside = 10,
+    /// 11: the output is shorter than the file that is to be written.
+    ShortOutput = 11,
+    /// 12: a value is outside its field, on some axis the grid reaches beyond 8,191, or the list has more than 4,095
+    /// triangles or a part of one.
+    Unwritable = 12,
 }
 
 impl Limit {
-    /// All limits, in the order in which they are asked for.
-    pub const ALL: [Limit; 10] = [
+    /// All limits, by their numbers.
+    pub const ALL: [Limit; 12] = [
         Limit::ShortHeader,
         Limit::Version,
         Limit::ZeroEdge,
@@ -51,9 +58,11 @@ impl Limit {
         Limit::ShortMap,
         Limit::PointCount,
         Limit::PointOutside,
+        Limit::ShortOutput,
+        Limit::Unwritable,
     ];
 
-    /// The limit's number, 1 to 10.
+    /// The limit's number, 1 to 12.
     pub const fn number(self) -> u8 {
         self as u8
     }
@@ -61,12 +70,12 @@ impl Limit {
     /// The limit with a number; none where no limit has it.
     pub const fn from_number(number: u8) -> Option<Limit> {
         match number {
-            1..=10 => Some(Limit::ALL[number as usize - 1]),
+            1..=12 => Some(Limit::ALL[number as usize - 1]),
             _ => None,
         }
     }
 
-    /// The limit in words, as `stall_limit_text` of the C header has it.
+    /// The limit in words, as `stall_limit_text` or `desk_limit_text` of the C headers has it.
     const fn text(self) -> &'static str {
         match self {
             Limit::ShortHeader => "the file has fewer than 12 bytes",
@@ -79,6 +88,10 @@ impl Limit {
             Limit::ShortMap => "the map buffer is too short for the grid",
             Limit::PointCount => "a route needs 2 to 64 points of three numbers each",
             Limit::PointOutside => "a point of the route lies outside the grid",
+            Limit::ShortOutput => "the output is too short for the file",
+            Limit::Unwritable => {
+                "a value, the grid's far corner or the list of triangles does not fit a file"
+            }
         }
     }
 }
@@ -92,9 +105,8 @@ impl Display for Limit {
 /// A refused call: the first limit that the input breaks, and the place. Every lent buffer holds what it held before.
 ///
 /// ```
-/// let file = include_bytes!(concat!(env!("CARGO_MANIFEST_DIR"), "/../../examples/g.frame"));
-/// let refusal = stall::test_route(file, &[0x70], &[[0, 0, 0], [21, 20, 20]]).unwrap_err();
-/// assert_eq!((refusal.limit, refusal.place), (stall::Limit::PointOutside, 1));
+/// use shared::{Limit, Refusal};
+/// let refusal = Refusal { limit: Limit::PointOutside, place: 1 };
 /// assert_eq!(refusal.to_string(), "limit 10: a point of the route lies outside the grid (point 1)");
 /// ```
 #[derive(Clone, Copy, Debug, PartialEq, Eq, Hash)]
