@@ -222,7 +222,7 @@ static inline const char *stall_limit_text(uint32_t limit)
     case STALL_LIMIT_POINT_OUTSIDE:
         return "a point of the route lies outside the grid";
     default:
-        return "no limit has this number";
+        return "no limit of this library has this number";
     }
 }
 

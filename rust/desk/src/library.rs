@@ -1,0 +1,14 @@
+//! The calls as the library has them, for a caller that wants no wrapper. `include/desk.h` says what each does, what its
+//! pointers must be, and what the bits of its answer are.
+
+unsafe extern "C" {
+    /// Writes a frame file.
+    pub fn desk_write(
+        grid: *const i32,
+        grid_len: u64,
+        triangles: *const i32,
+        triangles_len: u64,
+        out: *mut u8,
+        out_len: u64,
+    ) -> u64;
+}

@@ -1,0 +1,78 @@
+//! Both libraries in one program: what one writes, the other reads, fills and tests routes on.
+
+use desk::{Grid, Kind, Limit, Refusal, Triangle};
+
+const GRID: Grid = Grid {
+    cells: [2; 3],
+    edge: 10,
+    origin: [0; 3],
+};
+
+const TRIANGLES: [Triangle; 2] = [
+    Triangle {
+        kind: Kind::Frame,
+        corners: [[1, 20, 5], [20, 20, 5], [20, 1, 5]],
+    },
+    Triangle {
+        kind: Kind::ExitGate,
+        corners: [[-8192, 8191, 30]; 3],
+    },
+];
+
+/// The file of some triangles.
+fn file(triangles: &[Triangle]) -> Vec<u8> {
+    let mut file = vec![0; desk::file_len(triangles.len())];
+    let length = desk::write(&GRID, triangles, &mut file);
+    assert_eq!(length, Ok(file.len()));
+    file
+}
+
+/// The triangle of a record.
+fn triangle(record: stall::Record) -> Triangle {
+    Triangle {
+        kind: record.kind,
+        corners: record.corners.map(|corner| corner.map(i32::from)),
+    }
+}
+
+#[test]
+fn writes_what_is_read() {
+    let file = file(&TRIANGLES);
+    for (i, written) in TRIANGLES.into_iter().enumerate() {
+        let reading = stall::read(&file, i).unwrap();
+        let header = reading.header;
+        assert_eq!(header.cells.map(|cells| cells as i32), GRID.cells);
+        assert_eq!(i32::from(header.edge), GRID.edge);
+        assert_eq!(header.origin.map(i32::from), GRID.origin);
+        assert_eq!(header.count, 2);
+        assert_eq!(reading.record.map(triangle), Some(written));
+    }
+}
+
+/// Writes a file and fills its map. One type has the refusals of both.
+fn write_and_fill(file: &mut [u8], map: &mut [u8]) -> Result<usize, Refusal> {
+    let length = desk::write(&GRID, &TRIANGLES, file)?;
+    stall::fill(&file[..length], map)
+}
+
+#[test]
+fn fills_what_is_written() {
+    let (mut file, mut map) = ([0; 100], [0; 1]);
+    assert_eq!(write_and_fill(&mut file, &mut map), Ok(3));
+    assert_eq!(map, [0x70]);
+    let route = stall::test_route(&file[..44], &map, &[[0, 0, 0], [9, 9, 0]]);
+    assert_eq!(route, Ok(stall::Route::Free));
+    let limit = |answer: Result<usize, Refusal>| answer.unwrap_err().limit;
+    assert_eq!(
+        limit(write_and_fill(&mut file[..43], &mut map)),
+        Limit::ShortOutput
+    );
+    assert_eq!(limit(write_and_fill(&mut file, &mut [])), Limit::ShortMap);
+}
+
+/// The library writes the example that the documents decode byte by byte.
+#[test]
+fn writes_the_example() {
+    let example = include_bytes!("../../../examples/g.frame");
+    assert_eq!(file(&TRIANGLES[..1]), example);
+}
