@@ -5,72 +5,8 @@
  */
 #include "stall.h" /* first, so that it is seen to need nothing before it */
 
-#include <stdio.h>
-#include <string.h>
-
-static unsigned checks, failed;
-
-/* Counts a check, and says where it failed. */
-static void check(int holds, const char *group, const char *what, int line)
-{
-    checks++;
-    if (!holds) {
-        failed++;
-        printf("test.c:%d: %s: %s failed\n", line, group, what);
-    }
-}
-
-#define CHECK(group, condition) check((condition) ? 1 : 0, group, #condition, __LINE__)
-
-/* ---- a writer of frame files: bit fields, most significant bit first */
-
-struct frame {
-    uint8_t bytes[12 + 16 * 8];
-    size_t bits;
-};
-
-/* A field of so many bits behind those that are there. */
-static void put(struct frame *f, unsigned width, long value)
-{
-    for (unsigned i = width; i-- > 0; f->bits++) {
-        if ((unsigned long)value >> i & 1) {
-            f->bytes[f->bits / 8] |= (uint8_t)(0x80 >> f->bits % 8);
-        }
-    }
-}
-
-/* A header with n x n x n cells. */
-static struct frame header(long version, long n, long edge, long origin, long count)
-{
-    struct frame f;
-    memset(&f, 0, sizeof f);
-    put(&f, 4, version);
-    for (int axis = 0; axis < 3; axis++) {
-        put(&f, 6, n - 1);
-    }
-    put(&f, 8, edge);
-    for (int axis = 0; axis < 3; axis++) {
-        put(&f, 14, origin);
-    }
-    put(&f, 12, count);
-    put(&f, 12, 0);
-    return f;
-}
-
-/* A record behind those that are there. */
-static void record(struct frame *f, long kind, const long corners[9])
-{
-    put(f, 2, kind);
-    for (int i = 0; i < 9; i++) {
-        put(f, 14, corners[i]);
-    }
-}
-
-/* The bytes of a frame file. */
-static size_t length(const struct frame *f)
-{
-    return f->bits / 8;
-}
+#include "check.h"
+#include "frame.h"
 
 /* ---- the worked rows: a grid of 2 x 2 x 2 cells of edge 10, one triangle, one byte of map */
 
@@ -415,6 +351,5 @@ int main(void)
     readings();
     places();
     texts();
-    printf("c: %u checks, %u failed\n", checks, failed);
-    return failed != 0;
+    return totals();
 }

@@ -1,0 +1,57 @@
+/*
+ * Tests both libraries in one program, through both headers: what libdesk.a writes, libstall.a reads, fills and tests routes
+ * on.
+ * Prints a line with the totals; the exit status is 1 where a check failed.
+ */
+#include "desk.h"
+#include "stall.h"
+
+#include "check.h"
+
+/* The grid of the worked examples, row g of the frame, and an exit gate far outside. */
+static const int32_t GRID[DESK_GRID_NUMBERS] = {2, 2, 2, 10, 0, 0, 0};
+static const int32_t TRIANGLES[2 * DESK_TRIANGLE_NUMBERS] = {
+    DESK_KIND_FRAME,     1,     20,   5, 20,    20,   5, 20,    1,    5,
+    DESK_KIND_EXIT_GATE, -8192, 8191, 0, -8192, 8191, 1, -8192, 8191, 2,
+};
+
+/* Names that mean the same have the same values. */
+static void names(void)
+{
+    CHECK("names", (int)STALL_DONE == (int)DESK_DONE && (int)STALL_REFUSED == (int)DESK_REFUSED);
+    CHECK("names", (int)STALL_KIND_FRAME == (int)DESK_KIND_FRAME);
+    CHECK("names", (int)STALL_KIND_ENTRY_GATE == (int)DESK_KIND_ENTRY_GATE);
+    CHECK("names", (int)STALL_KIND_EXIT_GATE == (int)DESK_KIND_EXIT_GATE);
+    CHECK("names", STALL_FILE_MOST == DESK_FILE_MOST);
+    CHECK("names", (int)STALL_READ_NUMBERS - (int)STALL_AT_KIND == DESK_TRIANGLE_NUMBERS);
+}
+
+/* What is written reads back as the values given. */
+static void reads(const uint8_t *file, uint64_t file_len)
+{
+    for (uint64_t i = 0; i < 2; i++) {
+        int32_t numbers[STALL_READ_NUMBERS];
+        CHECK("reads", stall_read(file, file_len, i, numbers, STALL_READ_NUMBERS) == STALL_READ_NUMBERS);
+        CHECK("reads", numbers[STALL_AT_VERSION] == 1 && numbers[STALL_AT_COUNT] == 2);
+        for (unsigned j = 0; j < DESK_GRID_NUMBERS; j++) {
+            CHECK("reads", numbers[STALL_AT_CELLS + j] == GRID[j]);
+        }
+        for (unsigned j = 0; j < DESK_TRIANGLE_NUMBERS; j++) {
+            CHECK("reads", numbers[STALL_AT_KIND + j] == TRIANGLES[DESK_TRIANGLE_NUMBERS * i + j]);
+        }
+    }
+}
+
+/* Writes, reads, fills, tests a route. */
+int main(void)
+{
+    static const int16_t free_low[6] = {0, 0, 0, 9, 9, 0};
+    uint8_t file[60], map[1];
+    uint64_t answer = desk_write(GRID, DESK_GRID_NUMBERS, TRIANGLES, 2 * DESK_TRIANGLE_NUMBERS, file, sizeof file);
+    CHECK("writes", desk_tag(answer) == DESK_DONE && desk_length(answer) == desk_file_length(2));
+    names();
+    reads(file, desk_length(answer));
+    CHECK("fills", stall_count(stall_fill(file, desk_length(answer), map, 1)) == 3 && map[0] == 0x70);
+    CHECK("routes", stall_tag(stall_route(file, desk_length(answer), map, 1, free_low, 6)) == STALL_FREE);
+    return totals();
+}
