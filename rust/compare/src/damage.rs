@@ -13,6 +13,7 @@ fn calls(tally: &mut Tally, random: &mut Random, file: &[u8], numbers: &[i16], r
     tally.route(file, &map, numbers);
     let record = random.below(7);
     tally.read(random, file, record, 19);
+    tally.write_back(file);
 }
 
 /// Every truncation, every flip of one bit and some bytes more, of four files. Gives how many files that were.

@@ -1,6 +1,6 @@
-//! Compares the verified library with the independent version.
+//! Compares the verified libraries with the independent version.
 //!
-//!     compare          pseudo-random frames and routes, damaged files, short and long buffers
+//!     compare          pseudo-random frames and routes, damaged files, short and long buffers, values to write
 //!     compare long     a million damaged files
 //!     compare cases    the cases that the program digests reads
 //!     compare digest   the lines that the program digests must print, from the independent version
@@ -10,12 +10,14 @@ mod digest;
 mod random;
 mod scene;
 mod tally;
+mod writing;
 
 use random::Random;
 use std::process::ExitCode;
 use tally::Tally;
 
 const FRAMES: u64 = 30_000;
+const WRITES: u64 = 100_000;
 
 fn main() -> ExitCode {
     let mut tally = Tally::default();
@@ -30,6 +32,9 @@ fn main() -> ExitCode {
             println!("plates: {} compared", plates.len());
             let damaged = damage::each(&mut tally);
             println!("damaged: {damaged} files compared");
+            let writes = writing::each(&mut tally);
+            (0..WRITES).for_each(|seed| writing::by_chance(&mut tally, seed));
+            println!("writes: {writes} at borders and {WRITES} by chance compared");
         }
         Some("long") => damage::many(&mut tally, 1_000_000),
         Some("cases") => {
@@ -46,7 +51,8 @@ fn main() -> ExitCode {
         }
     }
     println!(
-        "compare: {} fills ({} accepted), {} fills in steps, {} routes ({} free, {} blocked), {} readings, {} failed",
+        "compare: {} fills ({} accepted), {} fills in steps, {} routes ({} free, {} blocked), {} readings, \
+         {} writes ({} written), {} round trips, {} failed",
         tally.fills,
         tally.accepted,
         tally.steps,
@@ -54,6 +60,9 @@ fn main() -> ExitCode {
         tally.free,
         tally.blocked,
         tally.readings,
+        tally.writes,
+        tally.written,
+        tally.round_trips,
         tally.failed
     );
     if tally.failed == 0 {
@@ -63,7 +72,7 @@ fn main() -> ExitCode {
     }
 }
 
-/// One frame: fills of buffers of several lengths, routes on its map and on others, and readings.
+/// One frame: fills of buffers of several lengths, routes on its map and on others, readings, and writing it.
 fn frame(tally: &mut Tally, seed: u64) {
     tally.seed = seed;
     let mut random = Random::new(seed);
@@ -111,4 +120,7 @@ fn frame(tally: &mut Tally, seed: u64) {
         tally.read(&mut random, &file, record, 19);
     }
     tally.read(&mut random, &file, usize::MAX, 9);
+    let (grid, triangles) = frame.numbers();
+    tally.write(&mut random, &grid, &triangles, file.len() + 7);
+    tally.write_back(&file);
 }

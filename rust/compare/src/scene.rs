@@ -27,6 +27,18 @@ impl Frame {
         independent::file_of(&header, &self.triangles)
     }
 
+    /// The numbers that a writer is given: those of the grid, and ten a triangle.
+    pub fn numbers(&self) -> (Vec<i32>, Vec<i32>) {
+        let narrow = |value: i64| value as i32;
+        let grid = self.cells.into_iter().chain([self.edge]).chain(self.origin);
+        let record = |record: &Record| {
+            let corners = record.corners.into_iter().flatten();
+            [record.kind].into_iter().chain(corners).collect::<Vec<_>>()
+        };
+        let triangles = self.triangles.iter().flat_map(record);
+        (grid.map(narrow).collect(), triangles.map(narrow).collect())
+    }
+
     pub fn map_bytes(&self) -> usize {
         (self.cells.iter().product::<i64>() as usize).div_ceil(8)
     }

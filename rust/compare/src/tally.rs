@@ -12,6 +12,9 @@ pub struct Tally {
     pub free: usize,
     pub blocked: usize,
     pub readings: usize,
+    pub writes: usize,
+    pub written: usize,
+    pub round_trips: usize,
     pub failed: usize,
     /// The seed of what is compared now, for the message.
     pub seed: u64,
@@ -33,8 +36,7 @@ impl Tally {
         let before = random.bytes(length);
         let (mut map, mut apart_map) = (before.clone(), before.clone());
         let answer = stall::fill(file, &mut map).map_err(said);
-        let apart = independent::fill(file, &mut apart_map)
-            .map_err(|refusal| (refusal.number, refusal.place));
+        let apart = independent::fill(file, &mut apart_map).map_err(said_apart);
         let kept = answer.is_ok() || map == before;
         if answer != apart || map != apart_map || !kept {
             let first = map.iter().zip(&apart_map).position(|(a, b)| a != b);
@@ -107,7 +109,7 @@ impl Tally {
         wanted: &[u8],
     ) {
         let answer = answer.map_err(said);
-        let apart = apart.map_err(|refusal| (refusal.number, refusal.place));
+        let apart = apart.map_err(said_apart);
         if answer != apart || map != wanted {
             let first = map.iter().zip(wanted).position(|(a, b)| a != b);
             let lent = format!(
@@ -138,7 +140,7 @@ impl Tally {
                 independent::Route::Free => None,
                 independent::Route::Blocked { leg, cell } => Some((leg, cell)),
             })
-            .map_err(|refusal| (refusal.number, refusal.place));
+            .map_err(said_apart);
         if answer != apart {
             self.differ(
                 "route",
@@ -194,11 +196,105 @@ impl Tally {
             );
         }
     }
+
+    /// Both write into an output of this length with any contents: the answers and all bytes are the same, and a refusal
+    /// changes none. A short list that is written reads back as it was given.
+    pub fn write(&mut self, random: &mut Random, grid: &[i32], triangles: &[i32], length: usize) {
+        self.writes += 1;
+        let before = random.bytes(length);
+        let (mut out, mut apart_out) = (before.clone(), before.clone());
+        let answer = desk::write_numbers(grid, triangles, &mut out).map_err(said);
+        let apart = independent::write_file(grid, triangles, &mut apart_out).map_err(said_apart);
+        let kept = answer.is_ok() || out == before;
+        if answer != apart || out != apart_out || !kept {
+            let first = out.iter().zip(&apart_out).position(|(a, b)| a != b);
+            let lent = format!(
+                "{}\n  output of {length} bytes, first differing byte {first:?}",
+                shown(grid, triangles)
+            );
+            self.differ(
+                "write",
+                &[],
+                &lent,
+                &format!("{answer:?}"),
+                &format!("{apart:?}"),
+            );
+        }
+        self.written += usize::from(answer.is_ok());
+        if answer.is_ok() && triangles.len() <= 100 {
+            self.read_back(grid, triangles);
+        }
+    }
+
+    /// What is written reads back as the values given, all of them.
+    pub fn read_back(&mut self, grid: &[i32], triangles: &[i32]) {
+        self.round_trips += 1;
+        let mut file = vec![0; desk::file_len(triangles.len() / 10)];
+        let answer = desk::write_numbers(grid, triangles, &mut file).map_err(said);
+        let read = values(&file);
+        let given = Some((grid.to_vec(), triangles.to_vec()));
+        if answer != Ok(file.len()) || read != given {
+            let read = read.map(|(grid, triangles)| shown(&grid, &triangles));
+            self.differ(
+                "reading back",
+                &file,
+                &shown(grid, triangles),
+                &format!("{answer:?}, {read:?}"),
+                "-",
+            );
+        }
+    }
+
+    /// Where a file is accepted, writing all that is read from it gives its bytes and its length.
+    pub fn write_back(&mut self, file: &[u8]) {
+        let Some((grid, triangles)) = values(file) else {
+            return;
+        };
+        self.round_trips += 1;
+        let mut out = vec![0xaa; file.len() + 1];
+        let answer = desk::write_numbers(&grid, &triangles, &mut out).map_err(said);
+        if answer != Ok(file.len()) || out != [file, &[0xaa]].concat() {
+            self.differ(
+                "writing back",
+                file,
+                &shown(&grid, &triangles),
+                &format!("{answer:?}, {out:?}"),
+                "-",
+            );
+        }
+    }
 }
 
-/// The number and the place of the library's refusal, as the other says them.
+/// The number and the place of the library's refusal.
 fn said(refusal: stall::Refusal) -> (u32, usize) {
     (u32::from(refusal.limit.number()), refusal.place)
+}
+
+/// The same of the other's.
+fn said_apart(refusal: independent::Refusal) -> (u32, usize) {
+    (refusal.number, refusal.place)
+}
+
+/// What a file holds, by the library's reading: the numbers of its grid and of its triangles; none where it is refused.
+fn values(file: &[u8]) -> Option<(Vec<i32>, Vec<i32>)> {
+    let mut numbers = [0; stall::READ_NUMBERS];
+    stall::read_numbers(file, 0, &mut numbers).ok()?;
+    let (grid, count) = (numbers[1..8].to_vec(), numbers[8] as usize);
+    let mut triangles = Vec::new();
+    for record in 0..count {
+        stall::read_numbers(file, record, &mut numbers).ok()?;
+        triangles.extend(&numbers[9..]);
+    }
+    Some((grid, triangles))
+}
+
+/// The values given to a writer, for a message: of a long list its beginning.
+fn shown(grid: &[i32], triangles: &[i32]) -> String {
+    let first = &triangles[..triangles.len().min(60)];
+    format!(
+        "grid {grid:?}, {} numbers of triangles: {first:?}",
+        triangles.len()
+    )
 }
 
 /// A reading's numbers in the order of the library's buffer.
