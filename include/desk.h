@@ -50,7 +50,7 @@ enum desk_tags {
 /* The limits. 12 is asked for before 11. The place is 0. Numbers 1 to 10 are those of stall.h. */
 enum desk_limits {
     DESK_LIMIT_SHORT_OUTPUT = 11, /* the output is shorter than the file */
-    DESK_LIMIT_UNWRITABLE = 12    /* a value outside its field, a far corner above 8,191, too many triangles or a part of one */
+    DESK_LIMIT_UNWRITABLE = 12    /* a value outside its field, a far corner above 8,191, or a wrong list of triangles */
 };
 
 /* The kind of a triangle. All kinds fill cells alike: a gate is an obstacle, open or shut. */

@@ -1,14 +1,16 @@
-//! Fills maps and tests routes by the verified library and by peers written in Rust, to count
-//! instructions, to time, and to compare.
+//! Fills maps, tests routes and writes files by the verified libraries and by peers written in Rust,
+//! to count instructions, to time, and to compare.
 //!
 //! ```text
 //! bench fill PEER SCENE CELLS N       fill the scene's map N times, CELLS cells a side
 //! bench count SCENE CELLS             print the number of filled cells
 //! bench route PEER SHAPE ANSWER N     test a route of 63 legs N times: slim or wide, free or blocked
+//! bench write PEER N                  write a file of 4,095 triangles N times
 //! bench time fill SCENE CELLS         print the microseconds of rattle and of halving
 //! bench time route SHAPE ANSWER       print the microseconds of rattle, rows, box and cells
-//! bench stack                         print the greatest stack of a fill, a route test and a reading
-//! bench check                         hold every peer to the rule as printed, and to the others
+//! bench time write                    print the microseconds of rattle and of words
+//! bench stack                         print the greatest stack of a fill, a route test, a reading and a write
+//! bench check                         hold every peer to the documents as printed, and to the others
 //! ```
 
 mod frame;
@@ -22,6 +24,7 @@ mod runs;
 mod scenes;
 mod stack;
 mod time;
+mod writing;
 
 use peers::{Fill, PEERS};
 use stall::Refusal;
@@ -131,8 +134,20 @@ fn time_route(shape: &str, answer: &str) -> Vec<f64> {
     }))
 }
 
-/// The greatest stack of a fill, over the scenes; of a route test, over the routes; of a reading.
-fn stacks() -> [usize; 3] {
+/// The times of the writers.
+fn time_write() -> Vec<f64> {
+    let (grid, triangles) = writing::values();
+    time::medians(&mut writing::PEERS.map(|(_, write)| {
+        let (grid, triangles, mut out) = (&grid, &triangles, vec![0; desk::FILE_MOST]);
+        move || {
+            let (grid, triangles) = (black_box(grid), black_box(triangles));
+            black_box(write(grid, triangles, black_box(&mut out)).unwrap());
+        }
+    }))
+}
+
+/// The greatest stack of a fill, over the scenes; of a route test, over the routes; of a reading; of a write.
+fn stacks() -> [usize; 4] {
     let mut map = vec![0; LENT];
     let fills = scenes::SCENES.map(|scene| stack::fill(&scenes::file(scene, 64), &mut map));
     let tests = routes::ROUTES.map(|(shape, answer)| {
@@ -140,10 +155,12 @@ fn stacks() -> [usize; 3] {
         stack::route(&scene.file, &scene.map, &numbers)
     });
     let reading = stack::read(&scenes::file("rails", 64));
+    let (grid, triangles) = writing::values();
     [
         fills.into_iter().max().unwrap(),
         tests.into_iter().max().unwrap(),
         reading,
+        stack::write(&grid, &triangles),
     ]
 }
 
@@ -160,6 +177,7 @@ fn main() {
         ["check"] => {
             check();
             routes::check();
+            writing::check();
         }
         ["count", scene, cells] => {
             let file = scenes::file(scene, cells.parse().unwrap());
@@ -168,6 +186,7 @@ fn main() {
         ["stack"] => print(&stacks()),
         ["time", "fill", scene, cells] => print(&time_fill(scene, cells.parse().unwrap())),
         ["time", "route", shape, answer] => print(&time_route(shape, answer)),
+        ["time", "write"] => print(&time_write()),
         ["fill", peer, scene, cells, times] => {
             let fill = named(&PEERS, peer);
             let file = scenes::file(scene, cells.parse().unwrap());
@@ -179,6 +198,15 @@ fn main() {
         ["route", peer, shape, answer, times] => {
             let test = named(&routes::PEERS, peer);
             test_route(test, shape, answer, times.parse().unwrap());
+        }
+        ["write", peer, times] => {
+            let write = named(&writing::PEERS, peer);
+            let (grid, triangles) = writing::values();
+            let mut out = vec![0; desk::FILE_MOST];
+            for _ in 0..times.parse().unwrap() {
+                let (grid, triangles) = (black_box(&grid), black_box(&triangles));
+                black_box(write(grid, triangles, black_box(&mut out)).unwrap());
+            }
         }
         _ => panic!("see the first lines of main.rs"),
     }

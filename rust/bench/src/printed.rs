@@ -17,6 +17,11 @@ pub fn test_route(file: &[u8], map: &[u8], numbers: &[i16]) -> Result<Route, Ref
     }
 }
 
+/// The writer.
+pub fn write(grid: &[i32], triangles: &[i32], out: &mut [u8]) -> Result<usize, Refusal> {
+    independent::write_file(grid, triangles, out).map_err(refusal)
+}
+
 /// A refusal in the library's type.
 fn refusal(no: independent::Refusal) -> Refusal {
     Refusal {

@@ -1,6 +1,7 @@
-//! How much stack the library's calls take: a call runs on painted bytes, and the paint that is left
+//! How much stack the libraries' calls take: a call runs on painted bytes, and the paint that is left
 //! is counted. For x86-64.
 
+use desk::library::desk_write;
 use stall::library::{stall_fill, stall_read, stall_route};
 use std::arch::asm;
 
@@ -66,4 +67,15 @@ pub fn read(file: &[u8]) -> usize {
             [file, file_len, 0, out_at, out.len(), 0],
         )
     }
+}
+
+/// The stack of a write.
+pub fn write(grid: &[i32], triangles: &[i32]) -> usize {
+    let mut out = vec![0u8; desk::FILE_MOST];
+    let (grid, grid_len) = (grid.as_ptr() as usize, grid.len());
+    let (triangles, triangles_len) = (triangles.as_ptr() as usize, triangles.len());
+    let (out, out_len) = (out.as_mut_ptr() as usize, out.len());
+    let arguments = [grid, grid_len, triangles, triangles_len, out, out_len];
+    // SAFETY: the slices outlive the call, and the library keeps none.
+    unsafe { depth(desk_write as *const (), arguments) }
 }
