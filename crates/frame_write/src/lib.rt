@@ -89,11 +89,11 @@ fn put_file(layout: Layout, grid: GridValues, triangles: &[i32], out: &mut [u8])
     requires { ⌜ WritableLayout layout × (asked (writeQuestions layout grid (now triangles) (length (now out))) ≡ passed) ⌝ }
     ensures { λ r. ⌜ (r ≡ recordStart layout (triangleCount (now (triangles .entry)))) × (now (out .exit) ≡ fileBytes layout grid (now (triangles .entry)) ++ drop (recordStart layout (triangleCount (now (triangles .entry)))) (now (out .entry))) ⌝ }
 {
-    let count = triangles.len() / 10;
+    let records = triangles.len() / 10;
     let head = layout.header;
-    layout_write::put_header(layout, &mut out[..head], &header_numbers(grid, count));
-    put_records(layout, triangles, count, out);
-    layout::record_start(layout, count)
+    layout_write::put_header(layout, &mut out[..head], &header_numbers(grid, records));
+    put_records(layout, triangles, records, out);
+    layout::record_start(layout, records)
 }
 
 // Writes the records behind the header's place.
