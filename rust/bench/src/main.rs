@@ -17,6 +17,7 @@ mod frame;
 mod halving;
 mod map;
 mod peers;
+mod pen;
 mod printed;
 mod routes;
 mod rule;

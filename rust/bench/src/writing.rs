@@ -1,5 +1,5 @@
-//! The writers of frame files: the verified one and a peer in Rust. Each asks the questions and
-//! writes the file.
+//! The writers of frame files: the verified one and peers in Rust, of which one has the same algorithm. Each asks the
+//! questions and writes the file.
 
 use crate::scenes::{self, Random};
 use desk::{Limit, Refusal};
@@ -8,9 +8,13 @@ use desk::{Limit, Refusal};
 pub type Write = fn(&[i32], &[i32], &mut [u8]) -> Result<usize, Refusal>;
 
 /// The peers by name. The first is the verified library.
-pub const PEERS: [(&str, Write); 2] = [("rattle", desk::write_numbers), ("words", by_words)];
+pub const PEERS: [(&str, Write); 3] = [
+    ("rattle", desk::write_numbers),
+    ("pen", crate::pen::write),
+    ("words", by_words),
+];
 
-// ---- the peer: a pass that checks all numbers, and one that writes two words a record
+// ---- the quick peer: a pass that checks all numbers, and one that writes two words a record
 
 /// The same by a Rust programmer who wants it quick, without unsafe code.
 fn by_words(grid: &[i32], triangles: &[i32], out: &mut [u8]) -> Result<usize, Refusal> {
