@@ -18,9 +18,9 @@ use Rattle.layout.specs.Layout.{version1}
 use Rattle.pack.proofs.Unpack.{Fits, FitsCount, FitsAlways}
 use Rattle.pack.proofs.Fitting.{FitAll, answered-fits}
 use Rattle.frame_write.specs.declared.GridValues.{GridValues}
-use Rattle.frame_write.specs.Write.{writeQuestions, writing, writtenBytes}
+use Rattle.frame_write.specs.Write.{gridFrom, writeQuestions, writing, writtenBytes}
 use Rattle.frame_write.proofs.Asked.{admitted}
-use Rattle.desk.specs.Calls.{gridFrom, listWriting, listBytes}
+use Rattle.desk.specs.Calls.{listWriting, listBytes}
 
 module _ (g : GridValues) (zs : List ℤ) (room : ℕ) where
   questions-fit : FitAll (writeQuestions version1 g zs room)

@@ -8,6 +8,7 @@ use Rattle.refusal.specs.Limit.{Answer, gives, saidLimit, unlessRefused}
 use Rattle.refusal.specs.Questions.{Question, _asks_, answered}
 use Rattle.layout.specs.declared.Layout.{Layout}
 use Rattle.layout.specs.Layout.{version1, recordStart}
+use Rattle.layout.specs.Values.{numberAt}
 use Rattle.layout_write.specs.Writing.{headerBytes, recordBytes}
 use Rattle.writable.specs.Fits.{headerFits, triangleFits, triangleNumbers, allBelow}
 use Rattle.frame_write.specs.declared.GridValues.{GridValues}
@@ -15,6 +16,10 @@ use Rattle.frame_write.specs.declared.Written.{Written}
 use Rattle.frame_write.specs.declared.Written.the-variants.{Length, Refused}
 
 -- ---- the values
+-- The grid's values that a list begins with, in the order of the header: cells along x, y, z, cell edge, origin x, y, z.
+abbrev pub gridFrom : List ℤ → GridValues
+gridFrom ns = record { nx = numberAt ns 0; ny = numberAt ns 1; nz = numberAt ns 2; edge = numberAt ns 3; x = numberAt ns 4; y = numberAt ns 5; z = numberAt ns 6 }
+
 -- The numbers of a header, in its order: version 1, the grid's values, the triangle count, and zero for its last bits.
 abbrev pub headerToWrite : GridValues → (count : ℕ) → List ℤ
 headerToWrite g n = pos 1 ∷ g .nx ∷ g .ny ∷ g .nz ∷ g .edge ∷ g .x ∷ g .y ∷ g .z ∷ pos n ∷ pos 0 ∷ []

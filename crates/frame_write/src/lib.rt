@@ -11,7 +11,7 @@ ghost use Rattle.refusal.specs.Inner.{saidVerdict, passed, asked};
 ghost use Rattle.layout.specs.Layout.{recordStart};
 ghost use Rattle.layout_write.specs.Put.{WritableLayout};
 ghost use Rattle.writable.specs.Fits.{triangleNumbers, allBelow, triangleFits};
-ghost use Rattle.frame_write.specs.Write.{headerToWrite, triangleCount, writeQuestions, recordsBytes, fileBytes, writing, writtenBytes, saidWritten};
+ghost use Rattle.frame_write.specs.Write.{gridFrom, headerToWrite, triangleCount, writeQuestions, recordsBytes, fileBytes, writing, writtenBytes, saidWritten};
 
 // A grid's values: cells along x, y and z, cell edge, and the origin.
 pub struct GridValues {
@@ -22,6 +22,22 @@ pub struct GridValues {
     pub x: i32,
     pub y: i32,
     pub z: i32,
+}
+
+// The grid's values that a list begins with, in the order of the header.
+pub fn grid_from(numbers: &[i32]) -> GridValues
+    requires { ⌜ 7 ≤ length (now numbers) ⌝ }
+    ensures { λ r. ⌜ r ≡ gridFrom (now (numbers .entry)) ⌝ }
+{
+    GridValues {
+        nx: numbers[0],
+        ny: numbers[1],
+        nz: numbers[2],
+        edge: numbers[3],
+        x: numbers[4],
+        y: numbers[5],
+        z: numbers[6],
+    }
 }
 
 // What a writing answers: the file's length, or the first limit broken.

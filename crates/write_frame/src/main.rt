@@ -1,6 +1,5 @@
 // Writes a frame file from text: the text from standard input, the file to standard output. What the command has to know goes
 // to standard error: how much was written, or why nothing was.
-use frame_write::GridValues;
 use frame_write::Written;
 use libc::STDIN_FILENO;
 use number_list::Listed;
@@ -63,7 +62,7 @@ fn write(numbers: &[i32], n: usize, out: &mut [u8])
 fn write_frame(numbers: &[i32], out: &mut [u8])
     requires { ⌜ (7 ≤ length (now numbers)) × (64 ≤ length (now out)) ⌝ }
 {
-    match frame_write::write(grid_in(numbers), &numbers[7..], out) {
+    match frame_write::write(frame_write::grid_from(numbers), &numbers[7..], out) {
         Written::Length(len) => {
             if console::send(out, len) {
                 console::say_count(b"TRIANGLES ", (numbers.len() - 7) / 10);
@@ -71,21 +70,6 @@ fn write_frame(numbers: &[i32], out: &mut [u8])
             }
         }
         Written::Refused(limit) => say_refusal(limit, out),
-    }
-}
-
-// The grid's values: the first seven numbers.
-fn grid_in(numbers: &[i32]) -> GridValues
-    requires { ⌜ 7 ≤ length (now numbers) ⌝ }
-{
-    GridValues {
-        nx: numbers[0],
-        ny: numbers[1],
-        nz: numbers[2],
-        edge: numbers[3],
-        x: numbers[4],
-        y: numbers[5],
-        z: numbers[6],
     }
 }
 

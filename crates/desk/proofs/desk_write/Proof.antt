@@ -6,8 +6,8 @@ use lib.ListN.{length}
 use Rattle.pack.specs.Pack.{packedCount}
 use Rattle.pack.proofs.Unpack.{counted}
 use Rattle.frame_write.specs.declared.GridValues.{GridValues}
-use Rattle.frame_write.specs.Write.{writing, writtenBytes, saidWritten}
-use Rattle.desk.specs.Calls.{gridFrom, listWriting, listBytes}
+use Rattle.frame_write.specs.Write.{gridFrom, writing, writtenBytes, saidWritten}
+use Rattle.desk.specs.Calls.{listWriting, listBytes}
 use Rattle.desk.proofs.Fitting.{list-fits, seven, not-seven}
 use Rattle.desk.proofs.desk_write.Statement.{statement}
 use Rattle.desk.proofs.desk_write.Tie as tie
@@ -31,13 +31,13 @@ module _ (k : tie.After-write) where
   said : saidWritten (k .write .result) ≡ listWriting (start .args .grid .now) (start .args .triangles .now) (length (start .args .out .now))
   said =
       k .write .ensures .0
-      ∙ ap (λ (g : GridValues). writing g (start .args .triangles .now) (length (start .args .out .now))) (k .before .before .grid-values .ensures)
+      ∙ ap (λ (g : GridValues). writing g (start .args .triangles .now) (length (start .args .out .now))) (k .before .before .grid-from .ensures)
       ∙ sym (given .0)
 
   left : k .write .last .1 .1 .0 ≡ listBytes (start .args .grid .now) (start .args .triangles .now) (start .args .out .now)
   left =
       k .write .ensures .1
-      ∙ ap (λ (g : GridValues). writtenBytes g (start .args .triangles .now) (start .args .out .now)) (k .before .before .grid-values .ensures)
+      ∙ ap (λ (g : GridValues). writtenBytes g (start .args .triangles .now) (start .args .out .now)) (k .before .before .grid-from .ensures)
       ∙ sym (given .1)
 
 returns-2 : tie.Need-returns-2
