@@ -133,7 +133,8 @@ fn sign_extend(n: u32, width: usize) -> i64
     }
 }
 
-// What has been written of a string of bits: so many whole bytes, and less than a byte more, which is held back.
+// A bit writer: what has been written of a string of bits. So many whole bytes went out, and less than a byte more is held
+// back.
 pub struct Pen {
     pub at: usize,
     pub bits: usize,
