@@ -3,6 +3,7 @@ use borrow.Author.Needs.{needs}
 use mathlib.Core.List.{List}
 use mathlib.Core.Path.{subst}
 use Prim.Native.Nat.{ℕ, _<_}
+use native.Mathlib.Nat.{mul-le-mul}
 use native.Mathlib.Omega.{arith}
 use Rattle.grid.specs.Cells.{xOfCell, yOfCell, zOfCell}
 use Rattle.grid.proofs.Numbers.{x-lt, y-lt, z-lt}
@@ -64,7 +65,7 @@ pub put-next-spec : {M : Type 1} → statement M
 put-next-spec =
     tie.close
     (tie.spec
-    (λ c κs. let p = c .before .before .pre in (omega (arith, p .4), p .3))
+    (λ c κs. let p = c .before .before .pre in (omega (arith, p .4), p .3, omega (arith, p .2, mul-le-mul (p .0 .most) (p .1 .most))))
     (λ c. start (c .before) .pre .0 .some)
     (λ c. start (c .before .before) .pre .0 .some)
     (λ c. start (c .before .before) .pre .1 .some)

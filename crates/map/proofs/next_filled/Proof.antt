@@ -3,7 +3,7 @@ use borrow.Author.Needs.{needs}
 use mathlib.Core.Bool.{false}
 use mathlib.Core.List.{List}
 use mathlib.Core.Path.{_≡_, sym, ap, _∙_}
-use Prim.Native.Nat.{ℕ, _+_, _-_, _*_, _<_, _≤_}
+use Prim.Native.Nat.{ℕ, _+_, _-_, _*_, _/_, _<_, _≤_}
 use native.Mathlib.Decide.{decLt}
 use native.Mathlib.Omega.{arith}
 use lib.ListN.{length}
@@ -13,7 +13,7 @@ use Rattle.map.proofs.next_filled.Statement.{statement}
 use Rattle.map.proofs.next_filled.Tie as tie
 
 abbrev Inv-loop : tie.InvT-loop
-Inv-loop map first end n₀ n = (first ≤ n) × (n ≤ end) × ((m : ℕ) → m < n → first ≤ m → isFilled map m ≡ false)
+Inv-loop map first end n₀ n = (first ≤ n) × ((m : ℕ) → m < n → first ≤ m → isFilled map m ≡ false)
 
 abbrev μ-loop : tie.MeasureT-loop
 μ-loop map first end n₀ n = end - n
@@ -34,19 +34,18 @@ in-map c = omega (arith, c .loop-test .taken, c .before .before .before .pre .1)
 -- a byte with no filled cell is passed over
 loop-again : tie.Need-loop-again Inv-loop μ-loop
 loop-again c =
-    let l = c .before .before .before .before in
+    let l = c .before .before .before in
     let a = l .before .before .args in
-    let e = c .byte-end .ensures in (
-      omega (arith, l .loop .inv .0, c .before .before .before .loop-test .taken, e),
-      omega (arith, e),
-      further (a .map .now) (a .first) (l .loop .n) (c .byte-end .result) (l .loop .inv .2)
-          (λ m h u. empty-cell (a .map .now) (l .loop .n) m (c .before .if1 .taken) h (omega (arith, u, e))),
+    let n = l .loop .n in (
+      omega (arith, l .loop .inv .0),
+      further (a .map .now) (a .first) n (n / 8 * 8 + 8) (l .loop .inv .1) (λ m h u. empty-cell (a .map .now) n m (c .if1 .taken) h (omega (arith, u))),
     )
 
 returns : tie.Need-returns Inv-loop μ-loop
 returns c =
-    let l = c .before .before .before .before .before in
-    record { from = l .loop .inv .0; to = l .loop .inv .1; skipped = l .loop .inv .2; stopped = λ _. sym (c .before .is-filled .ensures) ∙ c .if2 .taken }
+    let i = c .before .before .before .before in
+    let l = i .before in
+    record { from = l .loop .inv .0; to = omega (arith, i .loop-test .taken); skipped = l .loop .inv .1; stopped = λ _. sym (c .before .is-filled .ensures) ∙ c .if2 .taken }
 
 -- a clear cell is passed over
 loop-again-2 : tie.Need-loop-again-2 Inv-loop μ-loop
@@ -55,10 +54,21 @@ loop-again-2 c =
     let a = l .before .before .args in
     let clear = sym (c .before .is-filled .ensures) ∙ c .if2 .left in (
       omega (arith, l .loop .inv .0),
-      omega (arith, c .before .before .before .before .loop-test .taken),
-      further (a .map .now) (a .first) (l .loop .n) (l .loop .n + 1) (l .loop .inv .2)
+      further (a .map .now) (a .first) (l .loop .n) (l .loop .n + 1) (l .loop .inv .1)
           (λ m h u. let same : m ≡ l .loop .n = omega (arith, h, u) in ap (isFilled (a .map .now)) same ∙ clear),
     )
+
+-- none is left below `end`
+returns-2 : tie.Need-returns-2 Inv-loop μ-loop
+returns-2 c =
+    let l = c .before .before in
+    let p = l .before .before .pre in
+    record { from = p .0; to = omega arith; skipped = λ m u v. l .loop .inv .1 m (omega (arith, u, c .if3 .taken)) v; stopped = λ u. absurd (omega (arith, u)) }
+
+returns-3 : tie.Need-returns-3 Inv-loop μ-loop
+returns-3 c =
+    let l = c .before .before in
+    record { from = l .loop .inv .0; to = omega (arith, c .if3 .left); skipped = l .loop .inv .1; stopped = λ u. absurd (omega (arith, u, c .before .loop-test .left)) }
 
 pub next-filled-spec : {M : Type 1} → statement M
 next-filled-spec =
@@ -66,14 +76,16 @@ next-filled-spec =
     (tie.spec
     Inv-loop
     μ-loop
-    (λ c. (omega arith, c .before .pre .0, λ m u v. absurd (omega (arith, u, v))))
+    (λ c. (omega arith, λ m u v. absurd (omega (arith, u, v))))
     (λ c. omega (arith, in-map (c .before)))
-    (λ c κs. c .before .before .loop-test .taken)
-    (λ c. omega (arith, c .byte-end .ensures, c .before .before .before .loop-test .taken))
+    (λ c. omega (arith, c .before .before .loop-test .taken, c .before .before .before .before .before .pre .2))
+    (λ c. omega (arith, c .before .before .loop-test .taken, c .before .before .before .before .before .pre .2))
+    (λ c. omega (arith, c .before .before .loop-test .taken))
     loop-again
     (λ c κs. in-map (c .before .before))
     returns
     (λ c. search needs)
     (λ c. omega (arith, c .before .before .before .before .loop-test .taken))
     loop-again-2
-    (λ c. let l = c .before in record { from = l .loop .inv .0; to = l .loop .inv .1; skipped = l .loop .inv .2; stopped = λ u. absurd (omega (arith, u, c .loop-test .left)) }))
+    returns-2
+    returns-3)

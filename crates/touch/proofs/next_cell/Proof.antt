@@ -25,6 +25,6 @@ next-cell-spec =
     (tie.spec
     (λ c. omega (arith, c .before .pre))
     (λ c. omega (arith, c .before .pre))
-    (λ c κs. (omega (arith, c .before .pre .0), c .before .pre .1))
+    (λ c κs. (omega (arith, c .before .pre .0), c .before .pre .1, c .before .pre .2))
     (λ c. omega (arith, c .next-filled .ensures .from))
     returns)
