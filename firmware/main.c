@@ -2,7 +2,7 @@
  * Runs every call of the library, on a controller under QEMU and, compiled for x86-64, on the computer that builds it:
  *   - the map of every example frame, as its listing;
  *   - the same fills in steps, whose maps and counts must be those of stall_fill;
- *   - readings of the stall's file, and routes through the stall;
+ *   - readings of the stall's file, and routes through the stall and on g;
  *   - lengths and numbers beyond 32 bits, one at a time: a half that is lost on the way changes an answer;
  *   - the frames and routes of crates/digests, in the lines that it prints.
  * What is printed must be the same on both machines. Frames and maps stand at odd addresses. On the controller an access
@@ -173,6 +173,7 @@ static void routes(void)
 {
     static const int16_t reach[] = {-1000, -400, 1200, -300, -300, 700, -200, -100, 500, -200, 0, 520};
     static const int16_t feeder[] = {-1000, -400, 1200, -300, -300, 700, 900, 0, 700};
+    static const int16_t side[] = {600, 100, 460, 600, -600, 460}, inward[] = {600, -600, 460, 600, 100, 460};
     int16_t wide[3 * STALL_POINTS_MOST];
     for (int i = 0; i < STALL_POINTS_MOST; i++) {
         int far = i % 2;
@@ -182,6 +183,8 @@ static void routes(void)
     }
     through("to the udder, 3 legs", reach, 12);
     through("into the feeder, 2 legs", feeder, 9);
+    through("into the side", side, 6);
+    through("into the side, turned round", inward, 6);
     through("across the stall, 63 legs", wide, 192);
     wide[189] = 900;
     wide[190] = 0;
@@ -189,6 +192,17 @@ static void routes(void)
     through("the last leg into the feeder", wide, 192);
     wide[191] = 2000;
     through("out of the grid", wide, 192);
+}
+
+/* A leg on g that starts in cell 3 and comes to cells 1 and 2 later. */
+static void route_on_g(void)
+{
+    static const int16_t back[] = {20, 20, 5, 0, 0, 5};
+    const struct example *g = &EXAMPLES[6];
+    fill(g->file, length_of(g), other.bytes, ROOM);
+    uint64_t answer = route(g->file, length_of(g), other.bytes, ROOM, back, 6);
+    say("back on g", answer);
+    check(answer == ((uint64_t)STALL_BLOCKED << 56 | 3), "the cell named is the one that the leg reaches first");
 }
 
 /*
@@ -342,6 +356,7 @@ int main(void)
     }
     readings();
     routes();
+    route_on_g();
     beyond_32_bits();
     printf("digests\n");
     digests();

@@ -2,6 +2,8 @@
 //! the folder named: NAME.frame, and NAME.route with two bytes a number, the low one first. firmware/measure compiles it.
 #![allow(dead_code)]
 
+#[path = "../rust/bench/src/coming.rs"]
+mod coming;
 #[path = "../rust/bench/src/frame.rs"]
 mod frame;
 #[path = "../rust/bench/src/halving.rs"]

@@ -50,7 +50,7 @@ enum stall_tags {
     STALL_DONE = 0,    /* done; the low 32 bits count filled cells, records, or numbers written, by the call */
     STALL_REFUSED = 1, /* every call: the number of the limit, and the place in the low 32 bits */
     STALL_FREE = 2,    /* stall_route: no leg touches a filled cell */
-    STALL_BLOCKED = 3, /* stall_route: the first leg that touches one, and its lowest such cell in the low 32 bits */
+    STALL_BLOCKED = 3, /* stall_route: the first leg that touches one; the low 32 bits are the one that it reaches first */
     STALL_SHORT = 4    /* stall_read: `out` is too short; the low 32 bits count the numbers wanted */
 };
 
@@ -121,6 +121,10 @@ uint64_t stall_fill_end(const uint8_t *file, uint64_t file_len, const uint8_t *m
  * from: fill it again whenever the file may be another.
  *
  * Answer: STALL_FREE; or STALL_BLOCKED with the leg and the cell; or a refusal by limits 1 to 10.
+ *
+ * The leg is the first that touches a filled cell. The cell is, of the filled ones that this leg touches, the one that it
+ * reaches first: by the least fraction of the leg, from its first point on, whose point lies in the cell's closed cube.
+ * Fractions are compared exactly. Of several cells reached at once it is the one with the lowest number.
  */
 uint64_t stall_route(const uint8_t *file, uint64_t file_len, const uint8_t *map, uint64_t map_len, const int16_t *numbers,
                      uint64_t numbers_len);

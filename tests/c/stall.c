@@ -106,6 +106,7 @@ static void routes(void)
     static const int16_t free_low[6] = {0, 0, 0, 9, 9, 0}, blocked_low[6] = {0, 0, 0, 10, 10, 0};
     static const int16_t free_high[6] = {5, 5, 15, 15, 15, 15}, blocked_high[6] = {5, 5, 10, 15, 15, 10};
     static const int16_t edge[6] = {0, 0, 15, 20, 20, 20}, second[9] = {0, 0, 0, 9, 9, 0, 20, 20, 0};
+    static const int16_t back[6] = {20, 20, 5, 0, 0, 5};
     CHECK("routes", stall_tag(route_on_g(free_low, 6)) == STALL_FREE);
     CHECK("routes", route_on_g(free_low, 6) == (uint64_t)STALL_FREE << 56);
     uint64_t answer = route_on_g(blocked_low, 6);
@@ -113,6 +114,8 @@ static void routes(void)
     CHECK("routes", stall_tag(route_on_g(free_high, 6)) == STALL_FREE);
     answer = route_on_g(blocked_high, 6);
     CHECK("routes", stall_tag(answer) == STALL_BLOCKED && stall_leg(answer) == 0 && stall_cell(answer) == 1);
+    answer = route_on_g(back, 6);
+    CHECK("routes", stall_tag(answer) == STALL_BLOCKED && stall_leg(answer) == 0 && stall_cell(answer) == 3);
     CHECK("routes", stall_tag(route_on_g(edge, 6)) == STALL_FREE);
     answer = route_on_g(second, 9);
     CHECK("routes", stall_tag(answer) == STALL_BLOCKED && stall_leg(answer) == 1 && stall_cell(answer) == 1);
@@ -120,6 +123,49 @@ static void routes(void)
     answer = route_with(0x80, free_low, 6);
     CHECK("routes", stall_tag(answer) == STALL_BLOCKED && stall_leg(answer) == 0 && stall_cell(answer) == 0);
     puts("c: worked routes");
+}
+
+/* ---- the cell that is named: the filled one that the leg reaches first, and of several reached at once the lowest */
+
+struct leg {
+    const char *name;
+    uint8_t map;
+    int16_t numbers[6];
+    uint32_t cell, cell_turned; /* that the leg names, and the leg turned round */
+};
+
+static const struct leg LEGS[] = {
+    {"through the corner of all cells", 0xff, {0, 0, 0, 20, 20, 20}, 0, 7},
+    {"to six cells at once", 0x7e, {0, 0, 0, 20, 20, 20}, 1, 1},
+    {"through the edge of four cells", 0xf0, {20, 20, 5, 0, 0, 5}, 3, 0},
+    {"along faces", 0xff, {10, 3, 5, 10, 17, 5}, 0, 2},
+    {"along faces, one cell empty", 0xd0, {10, 3, 5, 10, 17, 5}, 0, 3},
+    {"along edges", 0xff, {10, 10, 2, 10, 10, 18}, 0, 4},
+    {"along edges, three cells empty", 0x1f, {10, 10, 2, 10, 10, 18}, 3, 4},
+    {"from steel into steel", 0xff, {15, 15, 15, 1, 2, 3}, 7, 0},
+    {"on x", 0xc0, {0, 5, 5, 20, 5, 5}, 0, 1},
+    {"on y", 0xa0, {5, 0, 5, 5, 20, 5}, 0, 2},
+    {"on z", 0x88, {5, 5, 0, 5, 5, 20}, 0, 4},
+    {"of equal points", 0x03, {10, 10, 10, 10, 10, 10}, 6, 6},
+};
+
+/* Whether an answer is blocked by leg 0 at a cell. */
+static int is_blocked_at(uint64_t answer, uint32_t cell)
+{
+    return answer == ((uint64_t)STALL_BLOCKED << 56 | cell);
+}
+
+/* Each leg, and the same turned round. */
+static void named_cells(void)
+{
+    for (size_t i = 0; i < sizeof LEGS / sizeof LEGS[0]; i++) {
+        const struct leg *leg = &LEGS[i];
+        const int16_t *n = leg->numbers;
+        const int16_t turned[6] = {n[3], n[4], n[5], n[0], n[1], n[2]};
+        check(is_blocked_at(route_with(leg->map, n, 6), leg->cell), "named cells", leg->name, __LINE__);
+        check(is_blocked_at(route_with(leg->map, turned, 6), leg->cell_turned), "turned round", leg->name, __LINE__);
+    }
+    puts("c: named cells");
 }
 
 /* ---- the limits */
@@ -345,6 +391,7 @@ int main(void)
     rows();
     steps();
     routes();
+    named_cells();
     limits();
     point_limits();
     nulls();

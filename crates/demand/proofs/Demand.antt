@@ -1,58 +1,48 @@
--- Demand 3: what the answer of a route test says about legs and triangles.
+-- Demand 3: what the answer of a route test says about legs and triangles. And what it says about the leg and the cell that are named.
 --     blocked-in    a finding of "blocked" names a leg of the route and a filled cell of the grid that the leg touches
+--     leg-first     no leg before the one named touches a filled cell
 --     demand-grid   over a grid, its triangles and the points of a route, for a map that holds the rule's cells
 --     demand-3      over a file, a map that an accepted fill with it left, and the numbers of a route
---     demand-of         the answer and the claim, as contracts state them
+--     first-of      over a file, any map and the numbers of a route: the cell named is the filled one that the leg named reaches first
+--     demand-of     the answer and the two claims, as contracts state them
 -- Assumes nothing.
-use mathlib.Core.Bool.{Bool, true, false, _&&_, _||_, and-eq-true-iff}
+use mathlib.Core.Bool.{Bool, true, false, _||_, and-eq-true-iff}
 use mathlib.Core.List.{List, [], _∷_}
 use mathlib.Core.Logic.{_⊎_, inl, inr}
 use mathlib.Core.Path.{_≡_, refl, sym, ap, _∙_, subst}
 use Prim.Native.Nat.{ℕ, _+_, _<_}
 use native.Mathlib.Omega.{arith}
-use lib.Dec.{T}
-use lib.IntN.{ℤ, pos}
+use lib.IntN.{ℤ}
 use lib.ListN.{length}
-use lib.Signed.{_≤ℤ_}
 use Rattle.integers.proofs.Laws.{<→≤}
+use Rattle.integers.proofs.Truth.{apart}
 use Rattle.geometry.specs.declared.Point.{Point}
 use Rattle.geometry.specs.declared.Triangle.{Triangle}
-use Rattle.geometry.specs.Geometry.{leg, cube}
+use Rattle.geometry.specs.Geometry.{leg}
 use Rattle.refusal.specs.Limit.{Answer}
 use Rattle.grid.specs.declared.Grid.{Grid}
 use Rattle.grid.specs.Cells.{cellNumber}
 use Rattle.grid.specs.Grid.{cellCount, latticeOf, cellCorner, cornerOf}
 use Rattle.grid.proofs.Numbers.{number-lt, x-of, y-of, z-of}
 use Rattle.map.specs.Map.{isFilled}
-use Rattle.overlap.specs.Rule.{overlapsBox}
 use Rattle.overlap.specs.Cells.{overlapsCell}
 use Rattle.reach.specs.Reaches.{Reaches, LegReaches, CommonPoint}
 use Rattle.reach.specs.Inner.{InsideGrid}
-use Rattle.reach.proofs.Theorem.{cell-rule}
-use Rattle.reach.proofs.Legs.{leg-rule}
 use Rattle.reach.proofs.Grid.{Proper, common-cell}
 use Rattle.frame.specs.File.{headerOf}
 use Rattle.frame.proofs.Accepted.{accepted}
 use Rattle.fill.specs.Fill.{gridOf, obstacles, anyOf, filledBy, filledIn}
 use Rattle.fill.proofs.Words.{rule-filled}
 use Rattle.touch.specs.declared.Found.{Found}
-use Rattle.touch.specs.Touch.{firstTouched}
-use Rattle.touch.proofs.Lowest.{apart, none-below, below-none, found-has}
-use Rattle.demand.specs.Route.{Finding, free, blocked, pointsOf, pointAt, legAt, legCount, tested, routeAnswer}
-use Rattle.demand.specs.Demand.{SomeOf, IsBlocked, BothReach, Demand3, LeftByFill, DemandOf}
+use Rattle.first_hit.specs.FirstHit.{filledAndTouched, firstHit}
+use Rattle.demand.specs.Route.{Finding, free, blocked, pointsOf, pointAt, legCount, tested, routeAnswer}
+use Rattle.demand.specs.Demand.{SomeOf, IsBlocked, BothReach, Demand3, LeftByFill, DemandOf, FirstOf}
 use Rattle.demand.proofs.Answers.{last-passed, answer-given}
 use Rattle.demand.proofs.First.{legs-free, free-legs, blocked-leg}
 use Rattle.demand.proofs.Points.{points-length, inside-grid}
+use Rattle.demand.proofs.Reached.{reaches, reached, leg-reaches, leg-reached, hit-has, none-hit, hit-none, reached-first}
 
--- ---- tests as statements
-true-T : (b : Bool) → b ≡ true → T b
-true-T true e = tt
-true-T false e = absurd (apart e refl)
-
-T-true : (b : Bool) → T b → b ≡ true
-T-true true t = refl
-T-true false t = absurd t
-
+-- ---- tests of a list as statements
 module _ {A : Type 0} (p : A → Bool) (P : A → Type 0) where
   any-some : ((x : A) → p x ≡ true → P x) → (xs : List A) → anyOf p xs ≡ true → SomeOf P xs
   unfolding anyOf
@@ -74,38 +64,28 @@ module _ {A : Type 0} (p : A → Bool) (P : A → Type 0) where
 
 -- Cell n is filled, and leg m touches it; the cell that is found on leg m.
 abbrev pub hit : (filled : ℕ → Bool) → Grid → List Point → (m n : ℕ) → Bool
-hit filled g ps m n = filled n && overlapsCell g (latticeOf g) (legAt ps m) n
+hit filled g ps m n = filledAndTouched filled g (pointAt ps m) (pointAt ps (m + 1)) n
 
 abbrev onLeg : (filled : ℕ → Bool) → Grid → List Point → ℕ → Found
-onLeg filled g ps m = firstTouched filled g (legAt ps m)
+onLeg filled g ps m = firstHit filled g (pointAt ps m) (pointAt ps (m + 1))
 
--- The leg and the cell that a finding names.
-pub blocked-in : (filled : ℕ → Bool) (g : Grid) (ps : List Point) (m n : ℕ) → tested filled g ps ≡ blocked m n
-    → (m < legCount ps) × (n < cellCount g) × (hit filled g ps m n ≡ true)
-unfolding tested firstTouched
-blocked-in filled g ps m n e =
-    let (lm, found) = blocked-leg (onLeg filled g ps) (legCount ps) m n e in
-    let (ln, full) = found-has (hit filled g ps m) (cellCount g) n found in
-    (lm, ln, full)
+-- The leg and the cell that a finding names, and the legs before that one.
+module _ (filled : ℕ → Bool) (g : Grid) (ps : List Point) (m n : ℕ) (e : tested filled g ps ≡ blocked m n) where
+  pub blocked-in : (m < legCount ps) × (n < cellCount g) × (hit filled g ps m n ≡ true)
+  unfolding tested
+  blocked-in =
+      let (lm, found, before) = blocked-leg (onLeg filled g ps) (legCount ps) m n e in
+      let (ln, full) = hit-has filled g (pointAt ps m) (pointAt ps (m + 1)) n found in
+      (lm, ln, full)
+
+  pub leg-first : (i k : ℕ) → i < m → k < cellCount g → hit filled g ps i k ≡ false
+  unfolding tested
+  leg-first i k li lk = none-hit filled g (pointAt ps i) (pointAt ps (i + 1)) (blocked-leg (onLeg filled g ps) (legCount ps) m n e .2 i li) k lk
 
 -- (c)
 free-or-blocked : (r : Finding) → (r ≡ free) ⊎ IsBlocked r
 free-or-blocked free = inl refl
 free-or-blocked (blocked m n) = inr (record { leg = m; cell = n; is = refl })
-
--- ---- the rule is exactly "reaches", for a triangle and for a leg
-module _ (p : Point) (s : ℤ) (size : pos 0 ≤ℤ s) where
-  reaches : (t : Triangle) → overlapsBox t p (cube s) ≡ true → Reaches t p s
-  reaches t e = cell-rule t p s size .0 (true-T _ e)
-
-  reached : (t : Triangle) → Reaches t p s → overlapsBox t p (cube s) ≡ true
-  reached t r = T-true _ (cell-rule t p s size .1 r)
-
-  leg-reaches : (a b : Point) → overlapsBox (leg a b) p (cube s) ≡ true → LegReaches a b p s
-  leg-reaches a b e = leg-rule a b p (cube s) .1 (reaches (leg a b) e)
-
-  leg-reached : (a b : Point) → LegReaches a b p s → overlapsBox (leg a b) p (cube s) ≡ true
-  leg-reached a b r = reached (leg a b) (leg-rule a b p (cube s) .0 r)
 
 -- ---- a grid, its triangles and the points of a route
 module _ (g : Grid) (ts : List Triangle) (ps : List Point) (filled : ℕ → Bool) (proper : Proper g)
@@ -114,7 +94,7 @@ module _ (g : Grid) (ts : List Triangle) (ps : List Point) (filled : ℕ → Boo
   -- a cell is filled and touched by a leg exactly when the leg and some triangle both reach it
   both-reach : (m n : ℕ) → m < legCount ps → n < cellCount g → hit filled g ps m n ≡ true → BothReach g ts ps m n
   both-reach m n lm ln e =
-      let (full, touched) = and-eq-true-iff (filled n) (overlapsCell g (latticeOf g) (legAt ps m) n) .0 e in
+      let (full, touched) = and-eq-true-iff (filled n) (overlapsCell g (latticeOf g) (leg (pointAt ps m) (pointAt ps (m + 1))) n) .0 e in
       record {
         leg-in = lm;
         cell-in = ln;
@@ -124,21 +104,23 @@ module _ (g : Grid) (ts : List Triangle) (ps : List Point) (filled : ℕ → Boo
 
   both-reached : {m n : ℕ} → BothReach g ts ps m n → hit filled g ps m n ≡ true
   both-reached {m} {n} b =
-      and-eq-true-iff (filled n) (overlapsCell g (latticeOf g) (legAt ps m) n) .1 (
+      and-eq-true-iff (filled n) (overlapsCell g (latticeOf g) (leg (pointAt ps m) (pointAt ps (m + 1))) n) .1 (
         map n (b .cell-in) ∙ some-any (λ t. overlapsCell g (latticeOf g) t n) (λ t. Reaches t (cornerOf g n) (g .edge)) (reached (cornerOf g n) (g .edge) (proper .edge)) ts (b .triangle),
         leg-reached (cornerOf g n) (g .edge) (proper .edge) (pointAt ps m) (pointAt ps (m + 1)) (b .leg),
       )
 
   -- (a)
   free-none : tested filled g ps ≡ free → (m n : ℕ) → BothReach g ts ps m n → ⊥
-  unfolding tested firstTouched
+  unfolding tested
   free-none e m n b =
       apart (both-reached b)
-      (below-none (hit filled g ps m) (cellCount g) (free-legs (onLeg filled g ps) (legCount ps) e m (b .leg-in)) n (b .cell-in))
+      (none-hit filled g (pointAt ps m) (pointAt ps (m + 1)) (free-legs (onLeg filled g ps) (legCount ps) e m (b .leg-in)) n (b .cell-in))
 
   none-free : ((m n : ℕ) → BothReach g ts ps m n → ⊥) → tested filled g ps ≡ free
-  unfolding tested firstTouched
-  none-free never = legs-free (onLeg filled g ps) (legCount ps) (λ m lm. none-below (hit filled g ps m) (cellCount g) (λ n ln. go m n lm ln (hit filled g ps m n) refl))
+  unfolding tested
+  none-free never =
+      legs-free (onLeg filled g ps) (legCount ps)
+      (λ m lm. hit-none filled g (pointAt ps m) (pointAt ps (m + 1)) (λ n ln. go m n lm ln (hit filled g ps m n) refl))
     where
       go : (m n : ℕ) → m < legCount ps → n < cellCount g → (b : Bool) → hit filled g ps m n ≡ b → b ≡ false
       go m n lm ln true e = absurd (never m n (both-reach m n lm ln e))
@@ -173,9 +155,9 @@ module _ (g : Grid) (ts : List Triangle) (ps : List Point) (filled : ℕ → Boo
     named = blocked-both;
   }
 
--- ---- a file, a map that an accepted fill with it left, and the numbers of a route
+-- ---- a file, a map and the numbers of a route
 module _ (s m : List ℕ) where
-  -- the map holds the rule's cells
+  -- a map that an accepted fill left holds the rule's cells
   filled-rule : LeftByFill s m → (n : ℕ) → n < cellCount (gridOf s) → isFilled m n ≡ filledIn s n
   filled-rule left n l = ap (λ (x : List ℕ). isFilled x n) (left .bytes) ∙ rule-filled s (left .old) (left .count) (left .accepted) n l
 
@@ -191,6 +173,11 @@ module _ (s m : List ℕ) where
         (demand-grid (gridOf s) (obstacles s) (pointsOf ns) (isFilled m) proper
         (λ i l. inside-grid (route .inside i (omega (arith, points-length ns)))) (filled-rule left))
 
-    -- an answer that is the definition's, with what demand 3 says of it
-    pub demand-of : {r : Answer Finding} → r ≡ routeAnswer s m ns → (r ≡ routeAnswer s m ns) × DemandOf s m ns r
-    demand-of e = (e, subst (DemandOf s m ns) (sym e) demand-3)
+    pub first-of : FirstOf s m ns (routeAnswer s m ns)
+    first-of i n given =
+        let p = answer-given s m ns given in
+        reached-first (isFilled m) (gridOf s) (pointsOf ns) (<→≤ (accepted s (headerOf s) (p .file) .grid .positive)) i n (p .answer)
+
+    -- an answer that is the definition's, with what demand 3 says of it, and with what is said of the cell named
+    pub demand-of : {r : Answer Finding} → r ≡ routeAnswer s m ns → (r ≡ routeAnswer s m ns) × DemandOf s m ns r × FirstOf s m ns r
+    demand-of e = (e, subst (DemandOf s m ns) (sym e) demand-3, subst (FirstOf s m ns) (sym e) first-of)

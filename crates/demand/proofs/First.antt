@@ -1,7 +1,7 @@
 -- Laws of the first leg for which a cell is found.
 --     legs-more, legs-blocked   one leg more, as a loop tests it
 --     legs-free, free-legs      all legs, and back
---     blocked-leg               the leg and the cell that an answer names
+--     blocked-leg               the leg and the cell that an answer names; the legs before find none
 -- Assumes nothing.
 use mathlib.Core.Path.{_≡_, refl, sym, _∙_}
 use Prim.Native.Nat.{ℕ, zero, suc, _+_, _<_}
@@ -69,16 +69,20 @@ module _ (find : ℕ → Found) where
       go (yes q) again last = rw q last
       go (no q) again last = again (omega arith)
 
-  pub blocked-leg : (c m n : ℕ) → firstBlocked find c ≡ blocked m n → (m < c) × (find m ≡ Cell n)
+  -- leg m finds cell n, and the legs before it find none
+  abbrev Blocks : (c m n : ℕ) → Type 0
+  Blocks c m n = (m < c) × (find m ≡ Cell n) × ((i : ℕ) → i < m → find i ≡ Nothing)
+
+  pub blocked-leg : (c m n : ℕ) → firstBlocked find c ≡ blocked m n → Blocks c m n
   unfolding firstBlocked
   blocked-leg zero m n e = let z : _≡_ {A = ℕ} 0 1 = cc in absurd (omega arith)
   blocked-leg (suc c) m n e = go (firstBlocked find c) (find c) refl refl (sym (more c) ∙ e) (blocked-leg c m n)
     where
       go : (r : Finding) (t : Found) → firstBlocked find c ≡ r → find c ≡ t → orLater r (byLeg c t) ≡ blocked m n
-          → (firstBlocked find c ≡ blocked m n → (m < c) × (find m ≡ Cell n)) → (m < suc c) × (find m ≡ Cell n)
+          → (firstBlocked find c ≡ blocked m n → Blocks c m n) → Blocks (suc c) m n
       go free (Cell k) q u f again =
           let leg : c ≡ m = cc in
           let cell : k ≡ n = cc in
-          (omega arith, rw (← leg, ← cell) u)
+          (omega arith, rw (← leg, ← cell) u, λ i l. free-legs c q i (omega arith))
       go free Nothing q u f again = let z : _≡_ {A = ℕ} 0 1 = cc in absurd (omega arith)
-      go (blocked i k) t q u f again = let h = again (q ∙ f) in (omega (arith, h .0), h .1)
+      go (blocked i k) t q u f again = let h = again (q ∙ f) in (omega (arith, h .0), h .1, h .2)

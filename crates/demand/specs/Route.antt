@@ -6,8 +6,7 @@ use lib.Dec.{leb, eqb}
 use lib.IntN.{ℤ, pos}
 use lib.ListN.{length, getD}
 use Rattle.geometry.specs.declared.Point.{Point}
-use Rattle.geometry.specs.declared.Triangle.{Triangle}
-use Rattle.geometry.specs.Geometry.{point, leg}
+use Rattle.geometry.specs.Geometry.{point}
 use Rattle.refusal.specs.Limit.{Answer}
 use Rattle.refusal.specs.Questions.{Question, _asks_, asksOf, answered, ofEach}
 use Rattle.grid.specs.declared.Grid.{Grid}
@@ -17,7 +16,7 @@ use Rattle.layout.specs.Values.{pointFrom}
 use Rattle.fill.specs.Fill.{gridOf, fillQuestions}
 use Rattle.touch.specs.declared.Found.{Found}
 use Rattle.touch.specs.declared.Found.the-variants.{Cell, Nothing}
-use Rattle.touch.specs.Touch.{firstTouched}
+use Rattle.first_hit.specs.FirstHit.{firstHit}
 
 -- ---- a route (polyline): a list of points, each three numbers, x, y and z in turn
 abbrev pub pointCount : List ℤ → ℕ
@@ -30,9 +29,6 @@ pointsOf ns = tabulate (λ m. pointFrom ns (3 * m)) (pointCount ns)
 -- Leg (segment) m joins point m to point m + 1, counted from 0.
 abbrev pub pointAt : List Point → ℕ → Point
 pointAt ps m = getD ps m (point (pos 0) (pos 0) (pos 0))
-
-abbrev pub legAt : List Point → ℕ → Triangle
-legAt ps m = leg (pointAt ps m) (pointAt ps (m + 1))
 
 abbrev pub legCount : List Point → ℕ
 legCount ps = length ps - 1
@@ -48,9 +44,9 @@ unfoldable pub firstBlocked : (ℕ → Found) → ℕ → Finding
 firstBlocked cell zero = free
 firstBlocked cell (suc m) = elim (firstBlocked cell m) [ blocked i n ↦ blocked i n | free ↦ elim (cell m) [ Cell n ↦ blocked m n | Nothing ↦ free ] ]
 
--- A route is free when no leg touches a filled cell. Otherwise it is blocked by the first such leg, at the lowest cell number filled and touched there.
+-- A route is free when no leg touches a filled cell. Otherwise it is blocked by the first such leg, at the filled cell that this leg reaches first.
 unfoldable pub tested : (filled : ℕ → Bool) → Grid → List Point → Finding
-tested filled g ps = firstBlocked (λ m. firstTouched filled g (legAt ps m)) (legCount ps)
+tested filled g ps = firstBlocked (λ m. firstHit filled g (pointAt ps m) (pointAt ps (m + 1))) (legCount ps)
 
 -- ---- the questions
 -- 9. Are there 2 to 64 points, with no number left over?

@@ -46,9 +46,17 @@ formOf s i j = s .a *ℤ i +ℤ s .b *ℤ j +ℤ s .c
 abbrev pub slabHolds : Slab → (i j : ℤ) → Bool
 slabHolds s i j = leZ (pos 0) (formOf s i j) && leZ (formOf s i j) (s .reach)
 
--- Row j of layer k, by the slab in YZ, which does not see where along the row a cell is; and cell i of the row, by the two others.
+-- The same along a run of cells, where the number on the other axis is k.
+abbrev pub slabAlong : Slab → (k i : ℕ) → Bool
+slabAlong s k i = slabHolds s (pos i) (pos k)
+
+-- Row j of layer k, by the slab in YZ, which does not see where along the row a cell is; cell i of row j, by the slab in XY, which does not see the layer; and
+-- cell i of row j of layer k, by the two that see it.
 abbrev pub rowHolds : Slabs → (k j : ℕ) → Bool
-rowHolds s k j = slabHolds (s .yz) (pos j) (pos k)
+rowHolds s = slabAlong (s .yz)
+
+abbrev pub columnHolds : Slabs → (j i : ℕ) → Bool
+columnHolds s = slabAlong (s .xy)
 
 unfoldable pub cellHolds : Slabs → (i j k : ℕ) → Bool
 cellHolds s i j k = slabHolds (s .xy) (pos i) (pos j) && slabHolds (s .zx) (pos k) (pos i)
@@ -71,9 +79,9 @@ pub record BoundedSlabs (s : Slabs) : Type 0 where
   pub yz : BoundedSlab (s .yz)
   pub zx : BoundedSlab (s .zx)
 
--- Rows to choose from, a row to begin at, and a layer.
-pub record ReadyRows (y : CellRange) (near k : ℕ) : Type 0 where
-  pub low : y .first ≤ near
-  pub high : near ≤ y .end
-  pub most : y .end ≤ indexMax
-  pub layer : k ≤ indexMax
+-- A run to choose from, a cell of it to begin at, and the number on the other axis.
+pub record ReadyRun (run : CellRange) (near at : ℕ) : Type 0 where
+  pub low : run .first ≤ near
+  pub high : near ≤ run .end
+  pub most : run .end ≤ indexMax
+  pub across : at ≤ indexMax

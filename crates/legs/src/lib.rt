@@ -10,7 +10,7 @@ ghost use Rattle.integers.specs.Within.{Within, Withins};
 ghost use Rattle.geometry.specs.Bounds.{indexMax, BoundedPoint};
 ghost use Rattle.grid.specs.Usable.{UsableLattice};
 ghost use Rattle.runs.specs.Run.{Narrows};
-ghost use Rattle.legs.specs.Slab.{risingSlab, slabOf, slabsOf, slabHolds, rowHolds, cellHolds, slabBounds, BoundedSlab, BoundedSlabs, ReadyRows};
+ghost use Rattle.legs.specs.Slab.{risingSlab, slabOf, slabsOf, slabHolds, slabAlong, rowHolds, columnHolds, cellHolds, slabBounds, BoundedSlab, BoundedSlabs, ReadyRun};
 
 // In the plane of two axes, the cells at which a × i + b × j + c is from 0 to `reach`, both included.
 pub struct Slab {
@@ -76,16 +76,31 @@ pub fn leg_slabs(a: Point, b: Point, l: Lattice) -> Slabs
 
 // Of the rows y of layer k, those that lie in the slab in YZ. They are sought from the row `near`.
 pub fn rows(s: Slabs, y: CellRange, near: usize, k: usize) -> CellRange
-    requires { ⌜ BoundedSlabs s × ReadyRows y near k ⌝ }
+    requires { ⌜ BoundedSlabs s × ReadyRun y near k ⌝ }
     ensures { λ r. ⌜ Narrows y (rowHolds s k) r ⌝ }
 {
-    let yz = s.yz;
+    narrow(s.yz, y, near, k)
+}
+
+// Of the cells x of row j, those that lie in the slab in XY. They are sought from the cell `near`.
+pub fn cells(s: Slabs, x: CellRange, near: usize, j: usize) -> CellRange
+    requires { ⌜ BoundedSlabs s × ReadyRun x near j ⌝ }
+    ensures { λ r. ⌜ Narrows x (columnHolds s j) r ⌝ }
+{
+    narrow(s.xy, x, near, j)
+}
+
+// The part of a run that lies in the slab, where the number on the other axis is `at`.
+fn narrow(s: Slab, run: CellRange, near: usize, at: usize) -> CellRange
+    requires { ⌜ BoundedSlab s × ReadyRun run near at ⌝ }
+    ensures { λ r. ⌜ Narrows run (slabAlong s at) r ⌝ }
+{
     runs::by_slab(
-        y,
+        run,
         near,
-        yz.a,
-        yz.b * integers::from_index(k) + yz.c,
-        yz.reach,
+        s.a,
+        s.b * integers::from_index(at) + s.c,
+        s.reach,
     )
 }
 

@@ -5,7 +5,7 @@ ghost use Prim.Native.Nat.{_*_, _≤_, _<_, min};
 ghost use lib.ListN.{take};
 ghost use Rattle.demand.specs.Route.{routeAnswer};
 ghost use Rattle.route.specs.Said.{saidRoute};
-ghost use Rattle.demand.specs.Demand.{DemandOf};
+ghost use Rattle.demand.specs.Demand.{DemandOf, FirstOf};
 ghost use Rattle.points.specs.Points.{numbersOf};
 ghost use Rattle.points.specs.Inner.{withPoint};
 
@@ -19,7 +19,7 @@ pub struct Point {
 // Tests a route as `route::test_route` does on the points' numbers in order. Those of 65 points are copied at most: 65
 // meet question 9 as any more would.
 pub fn test_points(file: &[u8], map: &[u8], points: &[Point]) -> RouteAnswer
-    ensures { λ r. ⌜ (saidRoute r ≡ routeAnswer (now (file .entry)) (now (map .entry)) (numbersOf (now (points .entry)))) × DemandOf (now (file .entry)) (now (map .entry)) (numbersOf (now (points .entry))) (saidRoute r) ⌝ }
+    ensures { λ r. ⌜ (saidRoute r ≡ routeAnswer (now (file .entry)) (now (map .entry)) (numbersOf (now (points .entry)))) × DemandOf (now (file .entry)) (now (map .entry)) (numbersOf (now (points .entry))) (saidRoute r) × FirstOf (now (file .entry)) (now (map .entry)) (numbersOf (now (points .entry))) (saidRoute r) ⌝ }
 {
     let count = copied_count(points.len());
     let mut numbers = [0i16; 195];
@@ -33,7 +33,7 @@ pub fn test_points(file: &[u8], map: &[u8], points: &[Point]) -> RouteAnswer
 
 // The same of the first `count` points of an array, or of all 128: for callers that hold their points by value.
 pub fn test_first_points(file: &[u8], map: &[u8], points: [Point; 128], count: usize) -> RouteAnswer
-    ensures { λ r. ⌜ (saidRoute r ≡ routeAnswer (now (file .entry)) (now (map .entry)) (numbersOf (take count points))) × DemandOf (now (file .entry)) (now (map .entry)) (numbersOf (take count points)) (saidRoute r) ⌝ }
+    ensures { λ r. ⌜ (saidRoute r ≡ routeAnswer (now (file .entry)) (now (map .entry)) (numbersOf (take count points))) × DemandOf (now (file .entry)) (now (map .entry)) (numbersOf (take count points)) (saidRoute r) × FirstOf (now (file .entry)) (now (map .entry)) (numbersOf (take count points)) (saidRoute r) ⌝ }
 {
     let end = lent_count(count);
     test_points(file, map, &points[..end])

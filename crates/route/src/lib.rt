@@ -16,12 +16,12 @@ ghost use Rattle.grid.specs.Grid.{cellCount};
 ghost use Rattle.grid.specs.Usable.{UsableGrid};
 ghost use Rattle.map.specs.Map.{mapLength, isFilled};
 ghost use Rattle.demand.specs.Route.{pointCount, pointsOf, pointAt, tested, pointQuestion, routeAnswer};
-ghost use Rattle.demand.specs.Demand.{DemandOf};
+ghost use Rattle.demand.specs.Demand.{DemandOf, FirstOf};
 ghost use Rattle.route.specs.Said.{saidRoute};
 ghost use Rattle.demand.specs.Inner.{ReadyRoute, lastQuestions};
 
-// What a route test answers: the route is free; or blocked, by the first leg that touches a filled cell, at
-// the lowest such cell; or the first limit broken.
+// What a route test answers: the route is free; or blocked, by the first leg that touches a filled cell, at the filled
+// cell that this leg reaches first; or the first limit broken.
 pub enum RouteAnswer {
     Free,
     Blocked(usize, usize),
@@ -30,7 +30,7 @@ pub enum RouteAnswer {
 
 // Puts questions 1 to 10, then tests the legs of the route in turn. The points are x, y and z in turn.
 pub fn test_route(file: &[u8], map: &[u8], numbers: &[i16]) -> RouteAnswer
-    ensures { λ r. ⌜ (saidRoute r ≡ routeAnswer (now (file .entry)) (now (map .entry)) (now (numbers .entry))) × DemandOf (now (file .entry)) (now (map .entry)) (now (numbers .entry)) (saidRoute r) ⌝ }
+    ensures { λ r. ⌜ (saidRoute r ≡ routeAnswer (now (file .entry)) (now (map .entry)) (now (numbers .entry))) × DemandOf (now (file .entry)) (now (map .entry)) (now (numbers .entry)) (saidRoute r) × FirstOf (now (file .entry)) (now (map .entry)) (now (numbers .entry)) (saidRoute r) ⌝ }
 {
     match frame::check(file) {
         Checked::Refused(limit) => RouteAnswer::Refused(limit),
@@ -108,7 +108,7 @@ fn test_legs(g: Grid, map: &[u8], numbers: &[i16]) -> RouteAnswer
     while m < legs {
         let a = point_at(numbers, m);
         let b = point_at(numbers, m + 1);
-        match touch::first_touched(g, map, a, b) {
+        match first_hit::first_hit(g, map, a, b) {
             Found::Cell(n) => {
                 return RouteAnswer::Blocked(m, n);
             }

@@ -13,7 +13,7 @@ ghost use Rattle.frame.specs.Questions.{withRecord, noRecord, reading};
 ghost use Rattle.fill.specs.Fill.{filling, filledBytes};
 ghost use Rattle.steps.specs.Steps.{beginning, begunBytes, joining, joinedBytes, ending, saidStep};
 ghost use Rattle.demand.specs.Route.{routeAnswer};
-ghost use Rattle.demand.specs.Demand.{DemandOf};
+ghost use Rattle.demand.specs.Demand.{DemandOf, FirstOf};
 ghost use Rattle.numbers.specs.Numbers.{headerNumbers, recordNumbers, readNumbers, written};
 ghost use Rattle.numbers.specs.Inner.{Small};
 ghost use Rattle.pack.specs.Pack.{packedCount, unpackedCount};
@@ -67,10 +67,10 @@ fn pack_step(step: Step) -> u64
 }
 
 // The route test. The answer has 2 in the top byte for a free route; 3 for a blocked one, with the leg in bits 32 to 47
-// and the cell in the low 32 bits; or it is a refusal, as for the fill.
+// and the cell that it reaches first in the low 32 bits; or it is a refusal, as for the fill.
 #[no_mangle]
 pub extern "C" fn stall_route(file: &[u8], map: &[u8], numbers: &[i16]) -> u64
-    ensures { λ r. ⌜ (r ≡ packedRoute (routeAnswer (now (file .entry)) (now (map .entry)) (now (numbers .entry)))) × (unpackedRoute r ≡ routeAnswer (now (file .entry)) (now (map .entry)) (now (numbers .entry))) × DemandOf (now (file .entry)) (now (map .entry)) (now (numbers .entry)) (unpackedRoute r) ⌝ }
+    ensures { λ r. ⌜ (r ≡ packedRoute (routeAnswer (now (file .entry)) (now (map .entry)) (now (numbers .entry)))) × (unpackedRoute r ≡ routeAnswer (now (file .entry)) (now (map .entry)) (now (numbers .entry))) × DemandOf (now (file .entry)) (now (map .entry)) (now (numbers .entry)) (unpackedRoute r) × FirstOf (now (file .entry)) (now (map .entry)) (now (numbers .entry)) (unpackedRoute r) ⌝ }
 {
     match route::test_route(file, map, numbers) {
         RouteAnswer::Free => pack::pack(2, 0, 0, 0),

@@ -1,4 +1,2 @@
--- The lowest number with a property.
-pub mod Lowest
 -- The search of a block.
-mod Scan
+pub mod Scan

@@ -11,6 +11,7 @@ use Prim.Native.Nat.{ℕ, suc, _+_, _*_, _<_, _≤_}
 use native.Mathlib.Decide.{decLt}
 use native.Mathlib.Nat.{mul-le-mul-left, mul-suc}
 use native.Mathlib.Omega.{arith}
+use Rattle.integers.proofs.Truth.{none}
 use Rattle.grid.specs.declared.Grid.{Grid}
 use Rattle.grid.specs.declared.BoxRange.{BoxRange}
 use Rattle.grid.specs.declared.CellRange.{CellRange}
@@ -24,9 +25,7 @@ use Rattle.runs.proofs.Narrow.{in-range, range-in}
 use Rattle.legs.specs.declared.Slabs.{Slabs}
 use Rattle.legs.specs.Slab.{rowHolds, cellHolds}
 use Rattle.touch.specs.declared.Found.the-variants.{Cell, Nothing}
-use Rattle.touch.specs.Touch.{lowest}
-use Rattle.touch.specs.Inner.{inBlock, wanted, InGrid}
-use Rattle.touch.proofs.Lowest.{none, none-below, first-at}
+use Rattle.touch.specs.Inner.{inBlock, wanted, Lowest, InGrid}
 
 -- ---- ranges
 abbrev pub In : CellRange → ℕ → Type 0
@@ -83,7 +82,7 @@ module _ (s : List ℕ) (g : Grid) (f : Slabs) (b : BoxRange) (in-grid : InGrid 
   none-at = No s (g .nx) (g .ny) f (b .x) (b .y) (b .z)
 
   -- a cell of the block and of the slabs, by its parts
-  parts : (i j k : ℕ) → inBlock f b i j k ≡ true → In (b .x) i × In (b .y) j × In (b .z) k × (rowHolds f k j ≡ true) × (cellHolds f i j k ≡ true)
+  pub parts : (i j k : ℕ) → inBlock f b i j k ≡ true → In (b .x) i × In (b .y) j × In (b .z) k × (rowHolds f k j ≡ true) × (cellHolds f i j k ≡ true)
   parts i j k e =
       let (rows, cell) = and-eq-true-iff (inRange (b .x) i && inRange (b .y) j && inRange (b .z) k && rowHolds f k j) (cellHolds f i j k) .0 e in
       let (box, row) = and-eq-true-iff (inRange (b .x) i && inRange (b .y) j && inRange (b .z) k) (rowHolds f k j) .0 rows in
@@ -96,18 +95,17 @@ module _ (s : List ℕ) (g : Grid) (f : Slabs) (b : BoxRange) (in-grid : InGrid 
       none (isFilled s n) (inBlock f b (xOfCell (g .nx) n) (yOfCell (g .nx) (g .ny) n) (zOfCell (g .nx) (g .ny) n))
       (λ e t. let w = parts _ _ _ t in h (w .0) (w .1) (w .2) (ap (isFilled s) (number-of (g .nx) (g .ny) n) ∙ e) (w .3) (w .4))
 
-  pub found-none : (k : ℕ) → b .z .end ≤ k → Layers s (g .nx) (g .ny) f (b .x) (b .y) (b .z) k → lowest test (cellCount g) ≡ Nothing
-  found-none k far layers =
-      none-below test (cellCount g)
-      (λ n l. no-cell n (λ hx hy hz. layers (zOfCell (g .nx) (g .ny) n) (omega arith) (xOfCell (g .nx) n) (yOfCell (g .nx) (g .ny) n) hx hy hz))
+  pub found-none : (k : ℕ) → b .z .end ≤ k → Layers s (g .nx) (g .ny) f (b .x) (b .y) (b .z) k → Lowest test (cellCount g) Nothing
+  found-none k far layers n l = no-cell n (λ hx hy hz. layers (zOfCell (g .nx) (g .ny) n) (omega arith) (xOfCell (g .nx) n) (yOfCell (g .nx) (g .ny) n) hx hy hz)
 
   pub found-at : (i j k : ℕ) → In (b .x) i → In (b .y) j → In (b .z) k → isFilled s (cellNumber (g .nx) (g .ny) i j k) ≡ true
       → rowHolds f k j ≡ true → cellHolds f i j k ≡ true → Layers s (g .nx) (g .ny) f (b .x) (b .y) (b .z) k → Rows s (g .nx) (g .ny) f (b .x) (b .y) (b .z) k j
-      → Cells s (g .nx) (g .ny) f (b .x) (b .y) (b .z) k j i → lowest test (cellCount g) ≡ Cell (cellNumber (g .nx) (g .ny) i j k)
-  found-at i j k hx hy hz filled row cell layers rows cells =
-      first-at test (cellNumber (g .nx) (g .ny) i j k) (cellCount g) (number-lt (g .nx) (g .ny) (g .nz) i j k li lj lk)
-      (rw (x-of (g .nx) (g .ny) i j k li, y-of (g .nx) (g .ny) i j k li lj, z-of (g .nx) (g .ny) i j k li lj, filled, range-in (b .x) i (hx .0) (hx .1), range-in (b .y) j (hy .0) (hy .1), range-in (b .z) k (hz .0) (hz .1), row, cell))
-      (λ n l. no-cell n (before (xOfCell (g .nx) n) (yOfCell (g .nx) (g .ny) n) (zOfCell (g .nx) (g .ny) n) (omega (arith, number-of (g .nx) (g .ny) n))))
+      → Cells s (g .nx) (g .ny) f (b .x) (b .y) (b .z) k j i → Lowest test (cellCount g) (Cell (cellNumber (g .nx) (g .ny) i j k))
+  found-at i j k hx hy hz filled row cell layers rows cells = (
+    number-lt (g .nx) (g .ny) (g .nz) i j k li lj lk,
+    rw (x-of (g .nx) (g .ny) i j k li, y-of (g .nx) (g .ny) i j k li lj, z-of (g .nx) (g .ny) i j k li lj, filled, range-in (b .x) i (hx .0) (hx .1), range-in (b .y) j (hy .0) (hy .1), range-in (b .z) k (hz .0) (hz .1), row, cell),
+    λ n l. no-cell n (before (xOfCell (g .nx) n) (yOfCell (g .nx) (g .ny) n) (zOfCell (g .nx) (g .ny) n) (omega (arith, number-of (g .nx) (g .ny) n))),
+  )
     where
       li : i < g .nx
       li = omega (arith, in-grid .x)

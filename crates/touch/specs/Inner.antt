@@ -10,6 +10,8 @@ use Rattle.grid.specs.Range.{inRange}
 use Rattle.map.specs.Map.{isFilled}
 use Rattle.legs.specs.declared.Slabs.{Slabs}
 use Rattle.legs.specs.Slab.{rowHolds, cellHolds}
+use Rattle.touch.specs.declared.Found.{Found}
+use Rattle.touch.specs.declared.Found.the-variants.{Cell, Nothing}
 
 -- Cell (i, j, k) lies in the block and in the slabs; cell n is looked for: it is filled, and does.
 abbrev pub inBlock : Slabs → BoxRange → (i j k : ℕ) → Bool
@@ -17,6 +19,11 @@ inBlock s b i j k = inRange (b .x) i && inRange (b .y) j && inRange (b .z) k && 
 
 abbrev pub wanted : (filled : ℕ → Bool) → Grid → Slabs → BoxRange → ℕ → Bool
 wanted filled g s b n = filled n && inBlock s b (xOfCell (g .nx) n) (yOfCell (g .nx) (g .ny) n) (zOfCell (g .nx) (g .ny) n)
+
+-- What is found is the lowest number below c with the property; or nothing, where there is none.
+abbrev pub Lowest : (ℕ → Bool) → ℕ → Found → Type 0
+Lowest p c (Cell n) = (n < c) × (p n ≡ true) × ((m : ℕ) → m < n → p m ≡ false)
+Lowest p c Nothing = (m : ℕ) → m < c → p m ≡ false
 
 -- A block of the grid's cells.
 pub record InGrid (g : Grid) (b : BoxRange) : Type 0 where

@@ -1,3 +1,2 @@
-pub mod Touch
 -- inner
 pub mod Inner

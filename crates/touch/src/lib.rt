@@ -1,19 +1,14 @@
-// The lowest filled cell that a leg touches.
-use geometry::Point;
+// The lowest filled cell of a block that lies in a leg's slabs: whether a leg is blocked.
 use grid::BoxRange;
 use grid::Grid;
 use legs::Slabs;
-ghost use mathlib.Core.Path.{_≡_};
 ghost use Prim.Native.Nat.{_+_, _*_, _≤_};
 ghost use lib.ListN.{length};
-ghost use Rattle.geometry.specs.Bounds.{BoundedPoint};
-ghost use Rattle.geometry.specs.Geometry.{leg};
 ghost use Rattle.grid.specs.Grid.{cellCount};
 ghost use Rattle.grid.specs.Usable.{BoundedGrid};
 ghost use Rattle.map.specs.Map.{mapLength, isFilled};
 ghost use Rattle.legs.specs.Slab.{BoundedSlabs};
-ghost use Rattle.touch.specs.Touch.{lowest, firstTouched};
-ghost use Rattle.touch.specs.Inner.{wanted, InGrid, NextCell};
+ghost use Rattle.touch.specs.Inner.{wanted, Lowest, InGrid, NextCell};
 
 // What a search answers: the number of a cell, or nothing.
 pub enum Found {
@@ -21,22 +16,11 @@ pub enum Found {
     Nothing,
 }
 
-// The lowest filled cell that the leg from a to b touches.
-pub fn first_touched(g: Grid, map: &[u8], a: Point, b: Point) -> Found
-    requires { ⌜ BoundedGrid g × (mapLength (cellCount g) ≤ length (now map)) × BoundedPoint a × BoundedPoint b ⌝ }
-    ensures { λ r. ⌜ r ≡ firstTouched (isFilled (now (map .entry))) g (leg a b) ⌝ }
-{
-    let l = grid::lattice_of(g);
-    let block = ranges::box_range(a, b, b, l, g.nx, g.ny, g.nz);
-    let slabs = legs::leg_slabs(a, b, l);
-    search(g, map, slabs, block)
-}
-
 // The lowest filled cell of the block that lies in the leg's slabs: by layers, rows and cells. Of a layer's rows only
 // those in the slab in YZ are looked at; in a row, cells that are not filled are skipped before their slabs are asked.
-fn search(g: Grid, map: &[u8], slabs: Slabs, block: BoxRange) -> Found
+pub fn search(g: Grid, map: &[u8], slabs: Slabs, block: BoxRange) -> Found
     requires { ⌜ BoundedGrid g × (mapLength (cellCount g) ≤ length (now map)) × BoundedSlabs slabs × InGrid g block ⌝ }
-    ensures { λ r. ⌜ r ≡ lowest (wanted (isFilled (now (map .entry))) g slabs block) (cellCount g) ⌝ }
+    ensures { λ r. ⌜ Lowest (wanted (isFilled (now (map .entry))) g slabs block) (cellCount g) r ⌝ }
 {
     let x = block.x;
     let y = block.y;
@@ -70,7 +54,7 @@ fn search(g: Grid, map: &[u8], slabs: Slabs, block: BoxRange) -> Found
 }
 
 // The first filled cell of a row, from `first` on and below `end`, or `end`. The row's cells are numbered from `row`.
-fn next_cell(map: &[u8], row: usize, first: usize, end: usize) -> usize
+pub fn next_cell(map: &[u8], row: usize, first: usize, end: usize) -> usize
     requires { ⌜ (first ≤ end) × (row + end ≤ 8 * length (now map)) × (row + end ≤ 262144) ⌝ }
     ensures { λ r. ⌜ NextCell (now (map .entry)) row first end r ⌝ }
 {

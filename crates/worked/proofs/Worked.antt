@@ -9,10 +9,11 @@ use Rattle.overlap.specs.Rule.{overlapsBox}
 use Rattle.layout.specs.Values.{headerIn, reservedIn, kindIn, recordIn}
 use Rattle.frame.specs.Questions.{reading}
 use Rattle.fill.specs.Fill.{obstacles, anyOf, filling, filledBytes}
-use Rattle.touch.specs.Touch.{lowest, firstTouched}
+use Rattle.entry.specs.Entry.{later, entryOn, entry}
+use Rattle.first_hit.specs.FirstHit.{nearest, firstHit}
 use Rattle.demand.specs.Route.{pointsOf, firstBlocked, tested, routeAnswer}
 use Rattle.worked.specs.Worked.{rows, rowsBy}
 
 pub worked : rowsBy rows ≡ rows
-unfolding bitAt fieldAt signedAt headerIn reservedIn kindIn recordIn answered ofEach reading overlapsBox isFilled countBelow firstBits tabulate mapOf obstacles anyOf filling filledBytes pointsOf lowest firstTouched firstBlocked tested inside routeAnswer
+unfolding bitAt fieldAt signedAt headerIn reservedIn kindIn recordIn answered ofEach reading overlapsBox isFilled countBelow firstBits tabulate mapOf obstacles anyOf filling filledBytes pointsOf later entryOn entry nearest firstHit firstBlocked tested inside routeAnswer
 worked = refl

@@ -1,4 +1,5 @@
--- The worked examples of document 01: the starred rows of its tables, as printed. Definitions only.
+-- The worked examples of document 01: the starred rows of its tables, as printed; and the route of request 2, which starts in cell 3 and names it. Definitions
+-- only.
 -- A grid of 2 × 2 × 2 cells, edge 10, origin 0, one triangle, kind 0.
 use mathlib.Core.List.{List, [], _∷_, _++_}
 use Prim.Native.Nat.{ℕ}
@@ -68,7 +69,8 @@ rows =
     (0x00 ∷ 0x00 ∷ 0x00 ∷ 0x50 ∷ 0x00 ∷ 0x50 ∷ 0x05 ∷ 0x00 ∷ 0x14 ∷ 0x00 ∷ 0x14 ∷ 0x01 ∷ 0x40 ∷ 0x00 ∷ 0x00 ∷ 0x05 ∷ []) 4 0xf0 []
     ∷ row "g" (at 1 20 5) (at 20 20 5) (at 20 1 5)
     (0x00 ∷ 0x01 ∷ 0x00 ∷ 0x50 ∷ 0x00 ∷ 0x50 ∷ 0x05 ∷ 0x00 ∷ 0x14 ∷ 0x00 ∷ 0x14 ∷ 0x01 ∷ 0x40 ∷ 0x00 ∷ 0x40 ∷ 0x05 ∷ []) 3 0x70
-    (from 0 0 0 9 9 0 free ∷ from 0 0 0 10 10 0 (blocked 0 1) ∷ from 5 5 15 15 15 15 free ∷ [])
+    (from 0 0 0 9 9 0 free ∷ from 0 0 0 10 10 0 (blocked 0 1) ∷ from 5 5 15 15 15 15 free
+    ∷ from 20 20 5 0 0 5 (blocked 0 3) ∷ [])
     ∷ row "h" (at 30 0 0) (at 0 30 0) (at 0 0 30)
     (0x00 ∷ 0x1e ∷ 0x00 ∷ 0x00 ∷ 0x00 ∷ 0x00 ∷ 0x00 ∷ 0x00 ∷ 0x1e ∷ 0x00 ∷ 0x00 ∷ 0x00 ∷ 0x00 ∷ 0x00 ∷ 0x00 ∷ 0x1e ∷ []) 8 0xff []
     ∷ row "i" (at 31 0 0) (at 0 31 0) (at 0 0 31)

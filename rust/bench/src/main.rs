@@ -5,6 +5,7 @@
 //! bench fill PEER SCENE CELLS N       fill the scene's map N times, CELLS cells a side
 //! bench count SCENE CELLS             print the number of filled cells
 //! bench route PEER SHAPE ANSWER N     test a route of 63 legs N times: slim or wide, free or blocked
+//! bench legs PEER SCENE WAY N         test 64 blocked legs N times, each by a call: from, into, up or down
 //! bench write PEER N                  write a file of 4,095 triangles N times
 //! bench time fill SCENE CELLS         print the microseconds of rattle and of halving
 //! bench time route SHAPE ANSWER       print the microseconds of rattle, rows, box and cells
@@ -13,6 +14,7 @@
 //! bench check                         hold every peer to the documents as printed, and to the others
 //! ```
 
+mod coming;
 mod frame;
 mod halving;
 mod map;
@@ -112,6 +114,17 @@ fn test_route(test: routes::Test, shape: &str, answer: &str, times: usize) {
     }
 }
 
+/// The route test, of the blocked legs to measure.
+fn test_legs(test: routes::Test, scene: &str, way: &str, times: usize) {
+    let (scene, legs) = routes::legs(scene, way);
+    for _ in 0..times {
+        for numbers in &legs {
+            let said = test(&scene.file, black_box(&scene.map), black_box(numbers));
+            black_box(said.unwrap());
+        }
+    }
+}
+
 /// The times of the verified fill and of the same loop in Rust.
 fn time_fill(scene: &str, cells: usize) -> Vec<f64> {
     let file = scenes::file(scene, cells);
@@ -199,6 +212,10 @@ fn main() {
         ["route", peer, shape, answer, times] => {
             let test = named(&routes::PEERS, peer);
             test_route(test, shape, answer, times.parse().unwrap());
+        }
+        ["legs", peer, scene, way, times] => {
+            let test = named(&routes::PEERS, peer);
+            test_legs(test, scene, way, times.parse().unwrap());
         }
         ["write", peer, times] => {
             let write = named(&writing::PEERS, peer);

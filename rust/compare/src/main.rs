@@ -5,6 +5,7 @@
 //!     compare cases    the cases that the program digests reads
 //!     compare digest   the lines that the program digests must print, from the independent version
 
+mod clipped;
 mod damage;
 mod digest;
 mod random;
@@ -50,6 +51,9 @@ fn main() -> ExitCode {
             return ExitCode::FAILURE;
         }
     }
+    let kinds = clipped::KINDS.iter().zip(tally.kinds);
+    let kinds: Vec<String> = kinds.map(|(kind, n)| format!("{n} {kind}")).collect();
+    println!("blocked legs: {}", kinds.join(", "));
     println!(
         "compare: {} fills ({} accepted), {} fills in steps, {} routes ({} free, {} blocked), {} readings, \
          {} writes ({} written), {} round trips, {} failed",
@@ -114,6 +118,12 @@ fn frame(tally: &mut Tally, seed: u64) {
     let other = random.bytes(longer);
     tally.route(&file, &other, &numbers);
     tally.route(&file, &map[..shorter], &numbers);
+    for _ in 0..if seed.is_multiple_of(10) { 1 } else { 4 } {
+        for numbers in scene::leg(&mut random, &frame) {
+            tally.route(&file, &map, &numbers);
+            tally.route(&file, &other, &numbers);
+        }
+    }
     for record in 0..frame.triangles.len() + 2 {
         let room = random.below(24);
         tally.read(&mut random, &file, record, room);

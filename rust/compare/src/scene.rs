@@ -208,7 +208,7 @@ pub fn route(random: &mut Random, frame: &Frame) -> Vec<i16> {
         if numbers.len() >= 3 && random.once_in(12) {
             numbers.extend_from_within(numbers.len() - 3..);
         } else {
-            numbers.extend([0, 1, 2].map(|axis| coordinate(random, frame, axis)));
+            numbers.extend(point(random, frame).map(|value| value as i16));
         }
     }
     if random.once_in(60) {
@@ -225,11 +225,76 @@ pub fn route(random: &mut Random, frame: &Frame) -> Vec<i16> {
     numbers
 }
 
-/// A point's value on an axis: anywhere in the grid, or on a face.
-fn coordinate(random: &mut Random, frame: &Frame, axis: usize) -> i16 {
-    let value = match random.below(3) {
-        0 => frame.origin[axis] + random.between(0, frame.cells[axis]) * frame.edge,
+/// A point in the grid. On each axis it stands anywhere, or in a plane between cells.
+fn point(random: &mut Random, frame: &Frame) -> Point {
+    [0, 1, 2].map(|axis| match random.below(3) {
+        0 => plane(random, frame, axis),
         _ => random.between(frame.origin[axis], frame.end(axis).max(frame.origin[axis])),
+    })
+}
+
+/// The value of a plane between cells, or of the grid's border.
+fn plane(random: &mut Random, frame: &Frame, axis: usize) -> i64 {
+    frame.origin[axis] + random.between(0, frame.cells[axis]) * frame.edge
+}
+
+/// The numbers of a leg on which it is seen which cell is named, and of the same leg turned round.
+pub fn leg(random: &mut Random, frame: &Frame) -> [Vec<i16>; 2] {
+    let [from, to] = match random.below(7) {
+        0 | 1 => [in_steel(random, frame), point(random, frame)],
+        2 => in_planes(random, frame, 1),
+        3 => in_planes(random, frame, 2),
+        4 => about_corner(random, frame),
+        5 => by_corners(random, frame),
+        _ => [point(random, frame); 2],
     };
-    value as i16
+    let numbers = |ends: [Point; 2]| ends.into_iter().flatten().map(|value| value as i16);
+    [[from, to], [to, from]].map(|ends| numbers(ends).collect())
+}
+
+/// A corner of a triangle, moved into the grid. Where there is no triangle, any point.
+fn in_steel(random: &mut Random, frame: &Frame) -> Point {
+    if frame.triangles.is_empty() {
+        return point(random, frame);
+    }
+    let record = &frame.triangles[random.below(frame.triangles.len())];
+    let corner = record.corners[random.below(3)];
+    [0, 1, 2].map(|axis| corner[axis].clamp(frame.origin[axis], frame.end(axis)))
+}
+
+/// A leg that stays in a plane between cells on one axis, along faces, or on two, along an edge.
+fn in_planes(random: &mut Random, frame: &Frame, axes: usize) -> [Point; 2] {
+    let [mut from, mut to] = [0; 2].map(|_| point(random, frame));
+    let first = random.below(3);
+    for axis in (first..first + axes).map(|axis| axis % 3) {
+        from[axis] = plane(random, frame, axis);
+        to[axis] = from[axis];
+    }
+    [from, to]
+}
+
+/// A leg with a corner of cells in its middle.
+fn about_corner(random: &mut Random, frame: &Frame) -> [Point; 2] {
+    let corner = [0, 1, 2].map(|axis| plane(random, frame, axis));
+    let half = [0, 1, 2].map(|axis| {
+        let room = (corner[axis] - frame.origin[axis]).min(frame.end(axis) - corner[axis]);
+        random.between(-room, room)
+    });
+    [-1, 1].map(|sign| [0, 1, 2].map(|axis| corner[axis] + sign * half[axis]))
+}
+
+/// A leg from corner to corner of cells, by as many cells on each axis.
+fn by_corners(random: &mut Random, frame: &Frame) -> [Point; 2] {
+    let most = *frame.cells.iter().min().unwrap();
+    let cells = random.between(1, most);
+    let ends = [0, 1, 2].map(|axis| {
+        let low = random.between(0, frame.cells[axis] - cells);
+        let ends = if random.once_in(2) {
+            [low, low + cells]
+        } else {
+            [low + cells, low]
+        };
+        ends.map(|i| frame.origin[axis] + i * frame.edge)
+    });
+    [0, 1].map(|end| ends.map(|ends| ends[end]))
 }

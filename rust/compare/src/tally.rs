@@ -1,5 +1,6 @@
 //! Puts the same question to both implementations, and counts.
 
+use crate::clipped::{self, Block};
 use crate::random::Random;
 
 /// What was compared, and how often the two differed.
@@ -11,6 +12,8 @@ pub struct Tally {
     pub routes: usize,
     pub free: usize,
     pub blocked: usize,
+    /// The blocked routes by what their blocked leg is like.
+    pub kinds: [usize; clipped::KINDS.len()],
     pub readings: usize,
     pub writes: usize,
     pub written: usize,
@@ -126,7 +129,8 @@ impl Tally {
         }
     }
 
-    /// Both test a route on a map.
+    /// Both test a route on a map. Where they do not refuse it, the answer is what the legs say when they are clipped to the
+    /// filled cells.
     pub fn route(&mut self, file: &[u8], map: &[u8], numbers: &[i16]) {
         self.routes += 1;
         let answer = stall::test_route_numbers(file, map, numbers)
@@ -150,8 +154,38 @@ impl Tally {
                 &format!("{apart:?}"),
             );
         }
+        if let Ok(answer) = answer {
+            self.clipped(file, map, numbers, answer);
+        }
         self.free += usize::from(answer == Ok(None));
         self.blocked += usize::from(matches!(answer, Ok(Some(_))));
+    }
+
+    /// The answer to a route, leg and cell or none, against its legs clipped to the filled cells.
+    fn clipped(
+        &mut self,
+        file: &[u8],
+        map: &[u8],
+        numbers: &[i16],
+        answer: Option<(usize, usize)>,
+    ) {
+        let header = stall::read(file, 0).unwrap().header;
+        let block = clipped::block(&header, map, numbers);
+        let clipped = block.as_ref().map(|block| (block.leg, block.cell));
+        if answer != clipped {
+            self.differ(
+                "clipped route",
+                file,
+                &format!("route {numbers:?}, clipped {clipped:?}"),
+                &format!("{answer:?}"),
+                "-",
+            );
+        }
+        if let Some(Block { kinds, .. }) = block {
+            for (count, is) in self.kinds.iter_mut().zip(kinds) {
+                *count += usize::from(is);
+            }
+        }
     }
 
     /// Both read a record, the library into a buffer of this length.

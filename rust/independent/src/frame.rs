@@ -28,6 +28,13 @@ impl Header {
         (i + self.cells[0] * (j + self.cells[1] * k)) as usize
     }
 
+    /// The cell (i, j, k) with number n.
+    pub fn cell(&self, n: usize) -> [i64; 3] {
+        let n = n as i64;
+        let [nx, ny, _] = self.cells;
+        [n % nx, n / nx % ny, n / nx / ny]
+    }
+
     /// The lowest corner of cell (i, j, k).
     pub fn lowest_corner(&self, cell: [i64; 3]) -> [i64; 3] {
         [0, 1, 2].map(|axis| self.origin[axis] + cell[axis] * self.edge)

@@ -1,6 +1,6 @@
 //! The map lister.
 
-use crate::frame::{accept, Header};
+use crate::frame::accept;
 use crate::map::{is_filled, map_of};
 
 /// What the lister writes for a file: FILLED with the counts and the filled cells, or REFUSED with number and place.
@@ -14,15 +14,8 @@ pub fn list(file: &[u8]) -> Vec<u8> {
     let (map, count) = map_of(&header, records.iter().map(|record| record.corners));
     let mut text = format!("FILLED {count} OF {}\n", header.cells_in_all());
     for n in (0..header.cells_in_all()).filter(|&n| is_filled(&map, n)) {
-        let [i, j, k] = cell(&header, n);
+        let [i, j, k] = header.cell(n);
         text += &format!("{i} {j} {k}\n");
     }
     text.into_bytes()
-}
-
-/// The cell with number n.
-fn cell(header: &Header, n: usize) -> [i64; 3] {
-    let n = n as i64;
-    let [nx, ny, _] = header.cells;
-    [n % nx, n / nx % ny, n / nx / ny]
 }

@@ -1,4 +1,4 @@
-//! The worked examples of the scope document.
+//! The worked examples of the scope document and of its change requests.
 
 use independent::{file_of, fill, list, read, test_route, Header, Record, Refusal, Route};
 
@@ -77,6 +77,10 @@ fn routes() {
     assert_eq!(
         on_g(&[5, 5, 10, 15, 15, 10]),
         Ok(Route::Blocked { leg: 0, cell: 1 })
+    );
+    assert_eq!(
+        on_g(&[20, 20, 5, 0, 0, 5]),
+        Ok(Route::Blocked { leg: 0, cell: 3 })
     );
     assert_eq!(on_g(&[0, 0, 15, 20, 20, 20]), Ok(Route::Free));
     assert_eq!(on_g(&[0, 0, 15, 21, 20, 20]), refused(10, 1));

@@ -17,7 +17,9 @@ pub enum Route {
     Blocked {
         /// The first such leg. Leg m joins point m to point m + 1, from 0.
         leg: usize,
-        /// The lowest number of a filled cell that it touches. [`Header::cell_box`](crate::Header::cell_box) says where it is.
+        /// Of the filled cells that it touches, the one that it reaches first: by the least fraction of the leg whose point
+        /// lies in the cell's closed cube, compared exactly. Of several reached at once it is the lowest number.
+        /// [`Header::cell_box`](crate::Header::cell_box) says where it is.
         cell: usize,
     },
 }
@@ -42,6 +44,9 @@ pub enum Route {
 ///     Route::Free => unreachable!(),
 ///     Route::Blocked { leg, cell } => assert_eq!((leg, cell), (1, 1)),
 /// }
+/// // This leg starts in cell 3, and comes to cell 1 later.
+/// let route = stall::test_route(file, &map, &[[20, 20, 5], [0, 0, 5]])?;
+/// assert_eq!(route, Route::Blocked { leg: 0, cell: 3 });
 /// # Ok(())
 /// # }
 /// ```

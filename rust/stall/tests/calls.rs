@@ -56,6 +56,8 @@ fn routes() {
     assert_eq!(on(&[[0, 0, 0], [9, 9, 0]]), Ok(Route::Free));
     let blocked = Ok(Route::Blocked { leg: 1, cell: 1 });
     assert_eq!(on(&[[0, 0, 0], [9, 9, 0], [10, 10, 0]]), blocked);
+    let first = Ok(Route::Blocked { leg: 0, cell: 3 });
+    assert_eq!(on(&[[20, 20, 5], [0, 0, 5]]), first);
     assert_eq!(on(&[[0; 3]; 64]), Ok(Route::Free));
     let count = Err(refusal(Limit::PointCount));
     assert_eq!(on(&[]), count);

@@ -56,7 +56,7 @@ use Rattle.route.specs.declared.RouteAnswer.{RouteAnswer}
 use Rattle.refusal.specs.Limit.{Answer}
 use Rattle.demand.specs.Route.{Finding, routeAnswer}
 use Rattle.route.specs.Said.{saidRoute}
-use Rattle.demand.specs.Demand.{DemandOf}
+use Rattle.demand.specs.Demand.{DemandOf, FirstOf}
 use Rattle.route.proofs.RouteAnswer as R
 use Rattle.route.proofs.RouteAnswer.Laws as R′
 use Rattle.points.specs.declared.Point.{Point}
@@ -167,7 +167,7 @@ module _ {M : Type 1} (𝓤 : URA M) (H : Heap 𝓤) (A : Atoms 𝓤) (W : Given
   answer ps = routeAnswer (now file) (now map) (numbersOf ps)
 
   abbrev Meant : List Point → RouteAnswer → Type 0
-  Meant ps r = (saidRoute r ≡ answer ps) × DemandOf (now file) (now map) (numbersOf ps) (saidRoute r)
+  Meant ps r = (saidRoute r ≡ answer ps) × DemandOf (now file) (now map) (numbersOf ps) (saidRoute r) × FirstOf (now file) (now map) (numbersOf ps) (saidRoute r)
 
   opens : ent 𝓤 (mean 𝓤 H A Entry) (mean 𝓤 H A (Tokens ⊛ L))
   opens = qed W (Tokens ∷ ‵ (owns (ShrSlice (named 0) κ₀ u8 ∷ ShrSlice (named 1) κ₁ u8 ∷ Pts ∷ usize ∷ []) (file, (map, (xs, (n, tt)))) (slice file ∷ [], (slice map ∷ [], (vals xs, (vint w64 n ∷ [], tt))))) ∷ []) ∵

@@ -8,14 +8,13 @@ use lib.Dec.{lit≤}
 use lib.IntN.{ℤ}
 use Rattle.geometry.specs.Bounds.{BoundedPoint}
 use Rattle.geometry.specs.declared.Point.{Point}
-use Rattle.geometry.specs.Geometry.{leg}
 use Rattle.map.specs.Map.{isFilled}
 use Rattle.refusal.specs.Limit.{gives}
 use Rattle.touch.specs.declared.Found.{Found}
-use Rattle.touch.specs.Touch.{firstTouched}
+use Rattle.first_hit.specs.FirstHit.{firstHit}
 use Rattle.grid.specs.declared.Grid.{Grid}
 use Rattle.grid.proofs.Usable.{usable-weaken}
-use Rattle.demand.specs.Route.{pointCount, pointsOf, pointAt, legAt, legCount, firstBlocked, tested, free}
+use Rattle.demand.specs.Route.{pointCount, pointsOf, pointAt, legCount, firstBlocked, tested, free}
 use Rattle.demand.proofs.First.{legs-none, legs-more, legs-blocked}
 use Rattle.demand.proofs.Points.{points-length, point-bounded}
 use Rattle.route.proofs.test_legs.Statement.{statement}
@@ -23,7 +22,7 @@ use Rattle.route.proofs.test_legs.Tie as tie
 
 -- the cell that is found on leg m
 abbrev onLeg : List ℕ → Grid → List ℤ → ℕ → Found
-onLeg map g numbers m = firstTouched (isFilled map) g (legAt (pointsOf numbers) m)
+onLeg map g numbers m = let ps = pointsOf numbers in firstHit (isFilled map) g (pointAt ps m) (pointAt ps (m + 1))
 
 abbrev Inv-loop : tie.InvT-loop
 Inv-loop g map numbers legs m₀ m = (m ≤ legs) × (firstBlocked (onLeg map g numbers) m ≡ free)
@@ -46,8 +45,8 @@ module _ (s : tie.Start Inv-loop μ-loop) where
   bounded : (m : ℕ) {p : Point} → m < pointCount (s .args .numbers .now) → p ≡ pointAt (pointsOf (s .args .numbers .now)) m → BoundedPoint p
   bounded m l e = rw e (point-bounded (s .pre .0 .within) (s .pre .2 .inside m l))
 
-first-touched-requires : tie.Need-first-touched-requires Inv-loop μ-loop
-first-touched-requires c κs =
+first-hit-requires : tie.Need-first-hit-requires Inv-loop μ-loop
+first-hit-requires c κs =
     let l = c .before .before .before in
     let s = start l in
     let t = c .before .before .loop-test .taken in (
@@ -58,11 +57,11 @@ first-touched-requires c κs =
     )
 
 -- what is found on the leg
-found : (c : tie.After-first-touched Inv-loop μ-loop) → let l = c .before .before .before .before in c .first-touched .result ≡ find (start l) (l .loop .m)
+found : (c : tie.After-first-hit Inv-loop μ-loop) → let l = c .before .before .before .before in c .first-hit .result ≡ find (start l) (l .loop .m)
 found c =
     let a = start (c .before .before .before .before) .args in
-    c .first-touched .ensures
-    ∙ ap₂ (λ (p q : Point). firstTouched (isFilled (a .map .now)) (a .g) (leg p q)) (c .before .before .point-at .ensures) (c .before .point-at2 .ensures)
+    c .first-hit .ensures
+    ∙ ap₂ (firstHit (isFilled (a .map .now)) (a .g)) (c .before .before .point-at .ensures) (c .before .point-at2 .ensures)
 
 returns : tie.Need-returns Inv-loop μ-loop
 unfolding tested
@@ -98,7 +97,7 @@ test-legs-spec =
     (λ c κs. omega arith)
     (λ c. search needs)
     (λ c κs. omega arith)
-    first-touched-requires
+    first-hit-requires
     (λ c. search needs)
     returns
     (λ c. search needs)

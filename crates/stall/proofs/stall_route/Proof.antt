@@ -6,7 +6,7 @@ use Rattle.refusal.specs.Limit.{Answer}
 use Rattle.route.specs.declared.RouteAnswer.{RouteAnswer}
 use Rattle.demand.specs.Route.{Finding, routeAnswer}
 use Rattle.route.specs.Said.{saidRoute}
-use Rattle.demand.specs.Demand.{DemandOf}
+use Rattle.demand.specs.Demand.{DemandOf, FirstOf}
 use Rattle.stall.specs.Calls.{packedRoute, unpackedRoute}
 use Rattle.stall.proofs.Answers.{tested}
 use Rattle.stall.proofs.stall_route.Statement.{statement}
@@ -19,6 +19,7 @@ module _ (k : tie.After-test-route) where
 
   packs : {q : RouteAnswer} {r : ℕ} → r ≡ packedRoute (saidRoute q) → k .test-route .result ≡ q → let a = k .before .before .before .args in
       (r ≡ packedRoute said) × (unpackedRoute r ≡ said) × DemandOf (a .file .now) (a .map .now) (a .numbers .now) (unpackedRoute r)
+      × FirstOf (a .file .now) (a .map .now) (a .numbers .now) (unpackedRoute r)
   packs p q =
       let a = k .before .before .before .args in
       tested (a .file .now) (a .map .now) (a .numbers .now) (p ∙ ap packedRoute (sym (ap saidRoute q) ∙ k .test-route .ensures .0))

@@ -1,21 +1,23 @@
 -- `touch::search` meets its contract: no cell that is looked for lies before the loops' layer, row and cell. Assumes nothing.
 use borrow.Author.Count.{below-more}
-use mathlib.Core.Bool.{false, true}
-use mathlib.Core.Path.{_≡_, refl, sym, ap, _∙_}
+use mathlib.Core.Bool.{Bool, false, true}
+use mathlib.Core.Path.{_≡_, refl, sym, ap, _∙_, subst}
 use Prim.Native.Nat.{ℕ, _+_, _-_, _*_, _<_, _≤_}
 use native.Mathlib.Nat.{mul-le-mul}
 use lib.ListN.{length}
 use native.Mathlib.Decide.{decLt}
 use native.Mathlib.Omega.{arith}
+use Rattle.integers.proofs.Truth.{apart}
 use Rattle.grid.specs.declared.Grid.{Grid}
 use Rattle.grid.specs.declared.BoxRange.{BoxRange}
 use Rattle.legs.specs.declared.Slabs.{Slabs}
 use Rattle.legs.specs.Slab.{rowHolds}
+use Rattle.grid.specs.Grid.{cellCount}
 use Rattle.grid.specs.Cells.{cellNumber}
 use Rattle.map.specs.Map.{isFilled}
 use Rattle.grid.proofs.Numbers.{number-lt}
 use Rattle.touch.specs.declared.Found.the-variants.{Cell, Nothing}
-use Rattle.touch.proofs.Lowest.{apart}
+use Rattle.touch.specs.Inner.{wanted, Lowest}
 use Rattle.touch.proofs.Scan.{In, No, Layers, Rows, Cells, row-in, no-row, either, found-none, found-at}
 use Rattle.touch.proofs.search.Statement.{statement}
 use Rattle.touch.proofs.search.Tie as tie
@@ -101,7 +103,7 @@ rows-requires c κs =
     let s = start o in
     let p = s .pre in
     let k = k-in s (c .if1 .taken) in
-    (p .2, record { low = o .scan .inv .3; high = o .scan .inv .4; most = omega (arith, p .3 .y, p .0 .within .y .most); layer = omega arith })
+    (p .2, record { low = o .scan .inv .3; high = o .scan .inv .4; most = omega (arith, p .3 .y, p .0 .within .y .most); across = omega arith })
 
 scan-again : tie.Need-scan-again Inv-cells μ-cells Inv-rows μ-rows Inv-scan μ-scan
 scan-again c =
@@ -225,11 +227,15 @@ cells-again c =
     )
 
 -- ---- the answers
+abbrev test : Start → ℕ → Bool
+test s = wanted (isFilled (s .args .map .now)) (grid s) (slabs s) (block s)
+
 returns : tie.Need-returns Inv-cells μ-cells Inv-rows μ-rows Inv-scan μ-scan
 returns c =
     let o = c .before .before in
     let s = start o in
-    o .scan .inv .0 ∙ sym (found-none (s .args .map .now) (grid s) (slabs s) (block s) (s .pre .3) (o .scan .k) (omega arith) (o .scan .inv .2))
+    subst (Lowest (test s) (cellCount (grid s))) (sym (o .scan .inv .0))
+    (found-none (s .args .map .now) (grid s) (slabs s) (block s) (s .pre .3) (o .scan .k) (omega arith) (o .scan .inv .2))
 
 returns-2 : tie.Need-returns-2 Inv-cells μ-cells Inv-rows μ-rows Inv-scan μ-scan
 returns-2 c =
@@ -240,8 +246,7 @@ returns-2 c =
     let o = scan-of m in
     let s = start o in
     let i-at = e .before .if3 .taken in
-    ap Cell (cell-is r (l .cells .i))
-    ∙ sym
+    subst (λ (n : ℕ). Lowest (test s) (cellCount (grid s)) (Cell n)) (sym (cell-is r (l .cells .i)))
     (found-at (s .args .map .now) (grid s) (slabs s) (block s) (s .pre .3) (l .cells .i) (m .rows .j) (o .scan .k)
     (l .cells .inv .1, i-at) (j-at l .0) (o .scan .inv .1, k-at m)
     (ap (isFilled (s .args .map .now)) (sym (cell-is r (l .cells .i))) ∙ l .cells .inv .2 i-at)

@@ -1,4 +1,4 @@
--- `legs::rows` meets its contract: along a layer the slab's form is one of the row's number. Assumes nothing.
+-- `legs::narrow` meets its contract: along a run the slab's form is one of the cell's number. Assumes nothing.
 use borrow.Author.Needs.{needs}
 use mathlib.Core.Bool.{_&&_}
 use mathlib.Core.List.{List, [], _∷_}
@@ -15,16 +15,16 @@ use Rattle.geometry.specs.Bounds.{indexMax}
 use Rattle.runs.specs.Run.{slopeMax, reachMax, SlabReady, Narrows, inSlab}
 use Rattle.runs.proofs.Narrow.{by-same}
 use Rattle.legs.specs.declared.Slab.{Slab}
-use Rattle.legs.proofs.rows.Statement.{statement}
-use Rattle.legs.proofs.rows.Tie as tie
+use Rattle.legs.proofs.narrow.Statement.{statement}
+use Rattle.legs.proofs.narrow.Tie as tie
 
 abbrev start : tie.After-from-index → tie.Start
-start c = c .before .before
+start c = c .before
 
 abbrev slab : tie.After-from-index → Slab
-slab c = start c .args .s .yz
+slab c = start c .args .s
 
--- the slab's numbers, and the layer
+-- the slab's numbers, and the one on the other axis
 abbrev ρ : tie.After-from-index → List ℤ
 ρ c = let s = slab c in s .a ∷ s .b ∷ s .c ∷ s .reach ∷ c .from-index .result ∷ []
 
@@ -34,8 +34,8 @@ bs = slopeMax ∷ slopeMax ∷ reachMax ∷ reachMax ∷ indexMax ∷ []
 ins : (c : tie.After-from-index) → Withins bs (ρ c)
 ins c =
     let p = start c .pre in
-    let s = p .0 .yz in
-    (s .a, (s .b, (s .c, (s .reach, (rw (c .from-index .ensures) (record { within = p .1 .layer }), tt)))))
+    let s = p .0 in
+    (s .a, (s .b, (s .c, (s .reach, (rw (c .from-index .ensures) (record { within = p .1 .across }), tt)))))
 
 abbrev at : Expr
 at = var 1 ⊗ var 4 ⊕ var 2
@@ -48,8 +48,8 @@ by-slab-requires c κs =
     let f = c .before .before .before .before .before .before in
     let a = start f .args in
     let p = start f .pre in
-    let s = p .0 .yz in
-    asked (ρ f) (λ l. SlabReady (a .y) (a .near) (nth l 0) (nth l 1) (nth l 2)) es bs tt (ins f)
+    let s = p .0 in
+    asked (ρ f) (λ l. SlabReady (a .run) (a .near) (nth l 0) (nth l 1) (nth l 2)) es bs tt (ins f)
     (record {
       low = p .1 .low;
       high = p .1 .high;
@@ -65,12 +65,12 @@ returns c =
     let f = c .before .before .before .before .before .before .before in
     let a = start f .args in
     let s = slab f in
-    let found = learnt (ρ f) (λ l. Narrows (a .y) (inSlab (nth l 0) (nth l 1) (nth l 2)) (c .by-slab .result)) es bs tt (ins f) (c .by-slab .ensures) in
-    by-same (λ j. ap (λ (z : ℤ). leZ (pos 0) z && leZ z (s .reach)) (sym (+ℤ-assoc (s .a *ℤ pos j) (s .b *ℤ pos (a .k)) (s .c))))
-    (subst (λ (z : ℤ). Narrows (a .y) (inSlab (s .a) (s .b *ℤ z +ℤ s .c) (s .reach)) (c .by-slab .result)) (f .from-index .ensures) found)
+    let found = learnt (ρ f) (λ l. Narrows (a .run) (inSlab (nth l 0) (nth l 1) (nth l 2)) (c .by-slab .result)) es bs tt (ins f) (c .by-slab .ensures) in
+    by-same (λ j. ap (λ (z : ℤ). leZ (pos 0) z && leZ z (s .reach)) (sym (+ℤ-assoc (s .a *ℤ pos j) (s .b *ℤ pos (a .at)) (s .c))))
+    (subst (λ (z : ℤ). Narrows (a .run) (inSlab (s .a) (s .b *ℤ z +ℤ s .c) (s .reach)) (c .by-slab .result)) (f .from-index .ensures) found)
 
-pub rows-spec : {M : Type 1} → statement M
-rows-spec =
+pub narrow-spec : {M : Type 1} → statement M
+narrow-spec =
     tie.close
     (tie.spec
     (λ c κs. search needs)

@@ -1,0 +1,3 @@
+pub mod Entry
+-- inner
+pub mod Inner

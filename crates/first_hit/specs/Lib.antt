@@ -1,0 +1,3 @@
+pub mod FirstHit
+-- inner
+pub mod Inner
