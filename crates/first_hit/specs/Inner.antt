@@ -48,6 +48,7 @@ entered h n = entryAt (h .entries) (xOfCell (h .g .nx) n) (yOfCell (h .g .nx) (h
 abbrev pub FirstBefore : List ℕ → Hunt → (j k : ℕ) → Best → Type 0
 FirstBefore s h j k best = FirstBelow (sought s h) (entered h) (cellNumber (h .g .nx) (h .g .ny) 0 j k) best
 
+-- What the search asks: a usable grid, a map with room for it, and a leg's slabs, block and entries as they are computed.
 pub record ReadyHunt (s : List ℕ) (h : Hunt) : Type 0 where
   pub grid : BoundedGrid (h .g)
   pub room : mapLength (cellCount (h .g)) ≤ length s
