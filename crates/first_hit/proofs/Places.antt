@@ -29,8 +29,8 @@ use Rattle.entry.proofs.Boxes.{at-bounded, layer-positive, row-positive, at-pos
 use Rattle.touch.specs.Inner.{inBlock}
 use Rattle.touch.proofs.Scan.{In, parts}
 use Rattle.first_hit.specs.declared.Best.{Best}
-use Rattle.first_hit.specs.declared.Hunt.{Hunt}
-use Rattle.first_hit.specs.Inner.{sought, entered, FirstBelow, FirstBefore, nearerOf, ReadyHunt}
+use Rattle.first_hit.specs.declared.Traversal.{Traversal}
+use Rattle.first_hit.specs.Inner.{sought, entered, FirstBelow, FirstBefore, nearerOf, ReadyTraversal}
 use Rattle.first_hit.proofs.Passing.{pass, meet}
 
 -- the row of a number
@@ -40,7 +40,7 @@ row-from nx r m h l = le-div-iff-mul-le h .1 (omega (arith, mul-comm nx r))
 row-to : (nx r m : ℕ) → 0 < nx → m < nx * r → m / nx < r
 row-to nx r m h l = div-lt-iff-lt-mul h .1 (omega (arith, mul-comm nx r))
 
-module _ {s : List ℕ} {h : Hunt} (ready : ReadyHunt s h) where
+module _ {s : List ℕ} {h : Traversal} (ready : ReadyTraversal s h) where
   abbrev nx : ℕ
   nx = h .g .nx
 

@@ -14,7 +14,7 @@ use Rattle.entry.specs.Entry.{earlier}
 use Rattle.entry.specs.Inner.{entryAt, AtMost, BoundedEntries}
 use Rattle.touch.specs.Inner.{wanted, InGrid}
 use Rattle.first_hit.specs.declared.Best.{Best}
-use Rattle.first_hit.specs.declared.Hunt.{Hunt}
+use Rattle.first_hit.specs.declared.Traversal.{Traversal}
 
 -- ---- the first of the numbers below c
 -- n is below c and has the property; the fraction of every other such number is not less, and greater where its number is lower.
@@ -38,31 +38,31 @@ nearerOf best n f = cond (earlier f (best .at)) (record { cell = n; at = f }) be
 
 -- ---- a leg in a grid
 -- The cells looked for, and the fraction at which the leg enters each.
-abbrev pub sought : List ℕ → Hunt → ℕ → Bool
-sought s h = wanted (isFilled s) (h .g) (h .slabs) (h .block)
+abbrev pub sought : List ℕ → Traversal → ℕ → Bool
+sought s t = wanted (isFilled s) (t .g) (t .slabs) (t .block)
 
-abbrev pub entered : Hunt → ℕ → Fraction
-entered h n = entryAt (h .entries) (xOfCell (h .g .nx) n) (yOfCell (h .g .nx) (h .g .ny) n) (zOfCell (h .g .nx) (h .g .ny) n)
+abbrev pub entered : Traversal → ℕ → Fraction
+entered t n = entryAt (t .entries) (xOfCell (t .g .nx) n) (yOfCell (t .g .nx) (t .g .ny) n) (zOfCell (t .g .nx) (t .g .ny) n)
 
 -- `best` is the first of the cells before row j of layer k.
-abbrev pub FirstBefore : List ℕ → Hunt → (j k : ℕ) → Best → Type 0
-FirstBefore s h j k best = FirstBelow (sought s h) (entered h) (cellNumber (h .g .nx) (h .g .ny) 0 j k) best
+abbrev pub FirstBefore : List ℕ → Traversal → (j k : ℕ) → Best → Type 0
+FirstBefore s t j k best = FirstBelow (sought s t) (entered t) (cellNumber (t .g .nx) (t .g .ny) 0 j k) best
 
 -- What the search asks: a usable grid, a map with room for it, and a leg's slabs, block and entries as they are computed.
-pub record ReadyHunt (s : List ℕ) (h : Hunt) : Type 0 where
-  pub grid : BoundedGrid (h .g)
-  pub room : mapLength (cellCount (h .g)) ≤ length s
-  pub slabs : BoundedSlabs (h .slabs)
-  pub block : InGrid (h .g) (h .block)
-  pub entries : BoundedEntries (h .entries)
+pub record ReadyTraversal (s : List ℕ) (t : Traversal) : Type 0 where
+  pub grid : BoundedGrid (t .g)
+  pub room : mapLength (cellCount (t .g)) ≤ length s
+  pub slabs : BoundedSlabs (t .slabs)
+  pub block : InGrid (t .g) (t .block)
+  pub entries : BoundedEntries (t .entries)
 
 -- A layer of the block, and a row that lies in the slab in YZ.
-pub record LayerOf (h : Hunt) (k : ℕ) : Type 0 where
-  pub from : h .block .z .first ≤ k
-  pub to : k < h .block .z .end
+pub record LayerOf (t : Traversal) (k : ℕ) : Type 0 where
+  pub from : t .block .z .first ≤ k
+  pub to : k < t .block .z .end
 
-pub record RowOf (h : Hunt) (j k : ℕ) : Type 0 where
-  pub layer : LayerOf h k
-  pub from : h .block .y .first ≤ j
-  pub to : j < h .block .y .end
-  pub holds : rowHolds (h .slabs) k j ≡ true
+pub record RowOf (t : Traversal) (j k : ℕ) : Type 0 where
+  pub layer : LayerOf t k
+  pub from : t .block .y .first ≤ j
+  pub to : j < t .block .y .end
+  pub holds : rowHolds (t .slabs) k j ≡ true

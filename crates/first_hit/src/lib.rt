@@ -20,10 +20,11 @@ ghost use Rattle.entry.specs.Inner.{layerEntry, rowEntry, BoundedFraction};
 ghost use Rattle.touch.specs.Inner.{Lowest};
 ghost use Rattle.touch.specs.declared.Found.the-variants.{Cell};
 ghost use Rattle.first_hit.specs.FirstHit.{nearest, firstHit};
-ghost use Rattle.first_hit.specs.Inner.{nearerOf, sought, entered, FirstBefore, ReadyHunt, LayerOf, RowOf};
+ghost use Rattle.first_hit.specs.Inner.{nearerOf, sought, entered, FirstBefore, ReadyTraversal, LayerOf, RowOf};
 
-// What a search goes by: a grid, a leg's block of cells, its slabs, and where it enters the cells.
-pub struct Hunt {
+// What the traversal of the cells along a leg goes by: the grid, the leg's block of cells, its slabs, and where it enters
+// the cells.
+pub struct Traversal {
     pub g: Grid,
     pub block: BoxRange,
     pub slabs: Slabs,
@@ -49,28 +50,28 @@ pub fn first_hit(g: Grid, map: &[u8], a: Point, b: Point) -> Found
         Found::Nothing => Found::Nothing,
         Found::Cell(n) => {
             let entries = entry::leg_entries(a, b, l);
-            let h = Hunt {
+            let t = Traversal {
                 g,
                 block,
                 slabs,
                 entries,
             };
-            Found::Cell(search(h, map, n))
+            Found::Cell(search(t, map, n))
         }
     }
 }
 
 // The cell reached first, where n is the lowest. Layers below n's have none, and a layer that the leg comes to no earlier
 // than it enters the cell found so far has none before that.
-fn search(h: Hunt, map: &[u8], n: usize) -> usize
-    requires { ⌜ ReadyHunt (now map) h × Lowest (sought (now map) h) (cellCount (h .g)) (Cell n) ⌝ }
-    ensures { λ r. ⌜ nearest (sought (now (map .entry)) h) (entered h) (cellCount (h .g)) ≡ Cell r ⌝ }
+fn search(t: Traversal, map: &[u8], n: usize) -> usize
+    requires { ⌜ ReadyTraversal (now map) t × Lowest (sought (now map) t) (cellCount (t .g)) (Cell n) ⌝ }
+    ensures { λ r. ⌜ nearest (sought (now (map .entry)) t) (entered t) (cellCount (t .g)) ≡ Cell r ⌝ }
 {
-    let g = h.g;
-    let block = h.block;
+    let g = t.g;
+    let block = t.block;
     let y = block.y;
     let z = block.z;
-    let entries = h.entries;
+    let entries = t.entries;
     let row = quotient(n, g.nx);
     let mut near = remainder(row, g.ny);
     let mut k = quotient(row, g.ny);
@@ -81,9 +82,9 @@ fn search(h: Hunt, map: &[u8], n: usize) -> usize
     while k < z.end {
         let at = entry::later_by(Fraction { num: 0, den: 1 }, entries.z, k);
         if entry::earlier(at, best.at) {
-            let rows = legs::rows(h.slabs, y, near, k);
+            let rows = legs::rows(t.slabs, y, near, k);
             near = rows.first;
-            best = search_layer(h, map, best, at, rows, k);
+            best = search_layer(t, map, best, at, rows, k);
         }
         k += 1;
     }
@@ -92,17 +93,24 @@ fn search(h: Hunt, map: &[u8], n: usize) -> usize
 
 // Passes layer k, whose rows in the slab in YZ are `rows`. A row that the leg comes to no earlier than it enters the cell
 // found so far has none before that.
-fn search_layer(h: Hunt, map: &[u8], old: Best, coming: Fraction, rows: CellRange, k: usize) -> Best
-    requires { ⌜ ReadyHunt (now map) h × LayerOf h k × Narrows (h .block .y) (rowHolds (h .slabs) k) rows × (coming ≡ layerEntry (h .entries) k) × FirstBefore (now map) h 0 k old ⌝ }
-    ensures { λ r. ⌜ FirstBefore (now (map .entry)) h 0 (k + 1) r ⌝ }
+fn search_layer(
+    t: Traversal,
+    map: &[u8],
+    old: Best,
+    coming: Fraction,
+    rows: CellRange,
+    k: usize,
+) -> Best
+    requires { ⌜ ReadyTraversal (now map) t × LayerOf t k × Narrows (t .block .y) (rowHolds (t .slabs) k) rows × (coming ≡ layerEntry (t .entries) k) × FirstBefore (now map) t 0 k old ⌝ }
+    ensures { λ r. ⌜ FirstBefore (now (map .entry)) t 0 (k + 1) r ⌝ }
 {
-    let entries = h.entries;
+    let entries = t.entries;
     let mut best = old;
     let mut j = rows.first;
     while j < rows.end {
         let at = entry::later_by(coming, entries.y, j);
         if entry::earlier(at, best.at) {
-            best = search_row(h, map, best, at, j, k);
+            best = search_row(t, map, best, at, j, k);
         }
         j += 1;
     }
@@ -111,20 +119,20 @@ fn search_layer(h: Hunt, map: &[u8], old: Best, coming: Fraction, rows: CellRang
 
 // Passes row j of layer k. Its cells in the slab in XY are sought from where the cell found so far stands in its row; of
 // them those that are not filled are skipped.
-fn search_row(h: Hunt, map: &[u8], old: Best, coming: Fraction, j: usize, k: usize) -> Best
-    requires { ⌜ ReadyHunt (now map) h × RowOf h j k × (coming ≡ rowEntry (h .entries) j k) × FirstBefore (now map) h j k old ⌝ }
-    ensures { λ r. ⌜ FirstBefore (now (map .entry)) h (j + 1) k r ⌝ }
+fn search_row(t: Traversal, map: &[u8], old: Best, coming: Fraction, j: usize, k: usize) -> Best
+    requires { ⌜ ReadyTraversal (now map) t × RowOf t j k × (coming ≡ rowEntry (t .entries) j k) × FirstBefore (now map) t j k old ⌝ }
+    ensures { λ r. ⌜ FirstBefore (now (map .entry)) t (j + 1) k r ⌝ }
 {
-    let g = h.g;
-    let block = h.block;
+    let g = t.g;
+    let block = t.block;
     let x = block.x;
-    let entries = h.entries;
-    let cells = legs::cells(h.slabs, x, remainder(old.cell, g.nx), j);
+    let entries = t.entries;
+    let cells = legs::cells(t.slabs, x, remainder(old.cell, g.nx), j);
     let row = grid::cell_number(g.nx, g.ny, 0, j, k);
     let mut best = old;
     let mut i = touch::next_cell(map, row, cells.first, cells.end);
     while i < cells.end {
-        if legs::touches(h.slabs, i, j, k) {
+        if legs::touches(t.slabs, i, j, k) {
             let at = entry::later_by(coming, entries.x, i);
             best = nearer(best, row + i, at);
         }

@@ -12,7 +12,7 @@ use Rattle.entry.specs.Entry.{earlier}
 use Rattle.entry.specs.Inner.{entryAt}
 use Rattle.entry.proofs.Boxes.{start-bounded, layer-bounded, at-positive}
 use Rattle.first_hit.specs.declared.Best.{Best}
-use Rattle.first_hit.specs.declared.Hunt.{Hunt}
+use Rattle.first_hit.specs.declared.Traversal.{Traversal}
 use Rattle.first_hit.specs.Inner.{sought, entered, FirstBelow, FirstBefore}
 use Rattle.first_hit.proofs.Nearest.{first-found}
 use Rattle.first_hit.proofs.Passing.{begin, whole}
@@ -37,8 +37,8 @@ abbrev start : tie.At-loop Inv-loop μ-loop → Start
 start c = start₀ (c .before .before)
 
 module _ (s : Start) where
-  abbrev h : Hunt
-  h = s .args .h
+  abbrev h : Traversal
+  h = s .args .t
 
   -- the lowest cell lies in the block
   low : let n = s .args .n in Sought (s .pre .0) (xOfCell (h .g .nx) n) (yOfCell (h .g .nx) (h .g .ny) n) (zOfCell (h .g .nx) (h .g .ny) n)

@@ -12,7 +12,7 @@ use Rattle.entry.specs.Entry.{earlier, later}
 use Rattle.entry.specs.Inner.{entryBy, rowEntry, entryAt}
 use Rattle.entry.proofs.Boxes.{layer-bounded, row-bounded}
 use Rattle.touch.proofs.Scan.{In, row-in}
-use Rattle.first_hit.specs.declared.Hunt.{Hunt}
+use Rattle.first_hit.specs.declared.Traversal.{Traversal}
 use Rattle.first_hit.specs.Inner.{sought, entered, FirstBelow, FirstBefore, RowOf}
 use Rattle.first_hit.proofs.Places.{Sought, best-bounded, late-row, pass-rows, layer-end}
 use Rattle.first_hit.proofs.search_layer.Statement.{statement}
@@ -31,8 +31,8 @@ abbrev start : tie.At-loop Inv-loop μ-loop → Start
 start c = c .before .before .before
 
 module _ (s : Start) where
-  abbrev h : Hunt
-  h = s .args .h
+  abbrev h : Traversal
+  h = s .args .t
 
   k-in : s .args .k < 64
   k-in = let r = s .pre .0 in omega (arith, s .pre .1 .to, r .block .z, r .grid .within .z .most)

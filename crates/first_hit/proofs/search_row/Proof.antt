@@ -20,7 +20,7 @@ use Rattle.entry.specs.Inner.{entryBy, BoundedFraction}
 use Rattle.entry.proofs.Boxes.{row-bounded, later-bounded, by-bounded}
 use Rattle.touch.proofs.Scan.{In}
 use Rattle.first_hit.specs.declared.Best.{Best}
-use Rattle.first_hit.specs.declared.Hunt.{Hunt}
+use Rattle.first_hit.specs.declared.Traversal.{Traversal}
 use Rattle.first_hit.specs.Inner.{sought, entered, FirstBelow}
 use Rattle.first_hit.proofs.Places.{Sought, sought-parts, count-most, count-more, below-count, best-bounded, row-start, row-end, pass-cells, meet-cell}
 use Rattle.first_hit.proofs.search_row.Statement.{statement}
@@ -47,8 +47,8 @@ row-of c = c .before .before
 
 -- ---- the row lies in the grid
 module _ (s : tie.Start Inv-loop μ-loop) where
-  abbrev h : Hunt
-  h = s .args .h
+  abbrev h : Traversal
+  h = s .args .t
 
   i-in : {cells : CellRange} → Narrows (h .block .x) (columnHolds (h .slabs) (s .args .j)) cells → {i : ℕ} → i < cells .end → i < 64
   i-in n l = let r = s .pre .0 in omega (arith, n .to, r .block .x, r .grid .within .x .most)
