@@ -9,10 +9,10 @@
  * - A buffer passes as a pointer and then its length in elements. The pointer points to so many elements, for reading
  *   where it is const. What is written overlaps nothing that is read.
  * - A pointer may be NULL where its length is 0.
- * - Lengths are 64 bits wide on every machine.
+ * - Lengths and cell numbers are 64 bits wide on every machine.
  * - There is no global state, no allocation and no lock. Calls on different buffers may run at the same time.
  * - Every input is answered: a bad one with a refusal, and then every buffer holds what it held before.
- * - Bytes behind what a call writes keep their contents.
+ * - Bytes and numbers behind what a call writes keep their contents.
  * - Stack use: see docs/PERFORMANCE.md.
  * - What the archive asks of the program that links it: nothing. `nm -u libdesk.a` lists it.
  *
@@ -21,7 +21,7 @@
  *   bits 63 to 56   the tag (enum desk_tags)
  *   bits 55 to 48   the limit's number (enum desk_limits), where the tag is DESK_REFUSED; else 0
  *   bits 47 to 32   0
- *   bits 31 to 0    the length of what was written, where the tag is DESK_DONE; the place, where it is DESK_REFUSED
+ *   bits 31 to 0    a length, a record, a place or a count, by the tag and the call; 0 for DESK_CLEAR
  *
  * The functions at the end take it apart.
  */
@@ -40,17 +40,32 @@ extern "C" {
 /* The numbers of a grid, and of a triangle. */
 #define DESK_GRID_NUMBERS 7
 #define DESK_TRIANGLE_NUMBERS 10
+/* The weights of a triangle that desk_bar writes: one a corner. */
+#define DESK_WEIGHTS 3
 
 /* The top byte of an answer. */
 enum desk_tags {
-    DESK_DONE = 0,   /* done; the low 32 bits are the length of what was written */
-    DESK_REFUSED = 1 /* the number of the limit, and the place in the low 32 bits */
+    DESK_DONE = 0,    /* done; the low 32 bits are the length of what was written, or the number of a record, by the call */
+    DESK_REFUSED = 1, /* every call: the number of the limit, and the place in the low 32 bits */
+    DESK_SHORT = 4,   /* desk_bar: `weights` is too short; the low 32 bits count the weights wanted */
+    DESK_CLEAR = 5    /* desk_bar: no triangle reaches the cell */
 };
 
-/* The limits. 12 is asked for before 11. The place is 0. Numbers 1 to 10 are those of stall.h. */
+/*
+ * The limits. The first that the input breaks is the answer: desk_write asks for 12, then 11; desk_bar for 1 to 7 in this
+ * order, then 16. The place is 0 but for one of them. Numbers 1 to 10 are those of stall.h; 13 to 15 are not used.
+ */
 enum desk_limits {
+    DESK_LIMIT_SHORT_HEADER = 1,  /* the file has fewer than 12 bytes */
+    DESK_LIMIT_VERSION = 2,       /* the version is not 1 */
+    DESK_LIMIT_ZERO_EDGE = 3,     /* the cell edge is 0 */
+    DESK_LIMIT_RESERVED_BITS = 4, /* the header's last 12 bits are not zero */
+    DESK_LIMIT_EXTENT = 5,        /* on some axis the grid reaches beyond 8,191 */
+    DESK_LIMIT_FILE_LENGTH = 6,   /* the file's length is not 12 + 16 x count */
+    DESK_LIMIT_UNUSED_KIND = 7,   /* a record's kind is 3; place: the lowest such record, from 0 */
     DESK_LIMIT_SHORT_OUTPUT = 11, /* the output is shorter than the file */
-    DESK_LIMIT_UNWRITABLE = 12    /* a value outside its field, a far corner above 8,191, or a wrong list of triangles */
+    DESK_LIMIT_UNWRITABLE = 12,   /* a value outside its field, a far corner above 8,191, or a wrong list of triangles */
+    DESK_LIMIT_CELL_OUTSIDE = 16  /* the cell number is not in the grid */
 };
 
 /* The kind of a triangle. All kinds fill cells alike: a gate is an obstacle, open or shut. */
@@ -83,6 +98,24 @@ enum desk_triangle_numbers {
 uint64_t desk_write(const int32_t *grid, uint64_t grid_len, const int32_t *triangles, uint64_t triangles_len, uint8_t *out,
                     uint64_t out_len);
 
+/*
+ * Says which triangle of a frame file, which bar of the steel, is behind a cell.
+ *
+ * A triangle reaches a cell where some point of it, its border included, lies in the cell's closed cube: exactly where it
+ * fills the cell. Cell (i, j, k) of a grid with nx, ny, nz cells has the number i + nx x (j + ny x k). Of the triangles
+ * that reach the cell, the one with the lowest record number is named. Records are counted from 0.
+ *
+ * Written to the start of `weights`, where there is such a triangle: DESK_WEIGHTS weights, w0, w1, w2, one for each corner
+ * v0, v1, v2 of its record. None is negative, and W = w0 + w1 + w2 is at least 1 and less than 2^30. The weighted point
+ * (w0 x v0 + w1 x v1 + w2 x v2) / W lies in the cell's closed cube. Which weights are written, of those of which this
+ * holds, is left open.
+ *
+ * Answer: DESK_DONE with the record's number; DESK_CLEAR where no triangle reaches the cell; DESK_SHORT with DESK_WEIGHTS,
+ * where one does and weights_len is less; or a refusal by limits 1 to 7, and then by limit 16 where the grid has no cell of
+ * this number. Nothing is written but with DESK_DONE.
+ */
+uint64_t desk_bar(const uint8_t *file, uint64_t file_len, uint64_t cell, int64_t *weights, uint64_t weights_len);
+
 /* The length in bytes of a file with so many triangles. */
 static inline uint64_t desk_file_length(uint64_t triangles)
 {
@@ -97,6 +130,12 @@ static inline unsigned desk_tag(uint64_t answer)
 
 /* The length in bytes of what was written. */
 static inline uint32_t desk_length(uint64_t answer)
+{
+    return (uint32_t)(answer & 0xffffffffu);
+}
+
+/* The number of the record, of a bar: from 0. */
+static inline uint32_t desk_record(uint64_t answer)
 {
     return (uint32_t)(answer & 0xffffffffu);
 }
@@ -117,10 +156,26 @@ static inline uint32_t desk_place(uint64_t answer)
 static inline const char *desk_limit_text(uint32_t limit)
 {
     switch (limit) {
+    case DESK_LIMIT_SHORT_HEADER:
+        return "the file has fewer than 12 bytes";
+    case DESK_LIMIT_VERSION:
+        return "the file's version is not 1";
+    case DESK_LIMIT_ZERO_EDGE:
+        return "the cell edge is 0";
+    case DESK_LIMIT_RESERVED_BITS:
+        return "the header's last 12 bits are not zero";
+    case DESK_LIMIT_EXTENT:
+        return "the grid reaches beyond 8,191 mm";
+    case DESK_LIMIT_FILE_LENGTH:
+        return "the file's length does not fit its triangle count";
+    case DESK_LIMIT_UNUSED_KIND:
+        return "a record has the unused kind 3";
     case DESK_LIMIT_SHORT_OUTPUT:
         return "the output is too short for the file";
     case DESK_LIMIT_UNWRITABLE:
         return "a value, the grid's far corner or the list of triangles does not fit a file";
+    case DESK_LIMIT_CELL_OUTSIDE:
+        return "the cell number is not in the grid";
     default:
         return "no limit of this library has this number";
     }

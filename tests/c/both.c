@@ -1,12 +1,14 @@
 /*
  * Tests both libraries in one program, through both headers: what libdesk.a writes, libstall.a reads, fills and tests routes
- * on.
+ * on, and libdesk.a shows the bars behind what is filled.
  * Prints a line with the totals; the exit status is 1 where a check failed.
  */
 #include "desk.h"
 #include "stall.h"
 
 #include "check.h"
+
+#include <string.h>
 
 /* The grid of the worked examples, row g of the frame, and an exit gate far outside. */
 static const int32_t GRID[DESK_GRID_NUMBERS] = {2, 2, 2, 10, 0, 0, 0};
@@ -19,6 +21,10 @@ static const int32_t TRIANGLES[2 * DESK_TRIANGLE_NUMBERS] = {
 static void names(void)
 {
     CHECK("names", (int)STALL_DONE == (int)DESK_DONE && (int)STALL_REFUSED == (int)DESK_REFUSED);
+    CHECK("names", (int)STALL_SHORT == (int)DESK_SHORT);
+    for (uint32_t limit = STALL_LIMIT_SHORT_HEADER; limit <= STALL_LIMIT_UNUSED_KIND; limit++) {
+        CHECK("names", strcmp(stall_limit_text(limit), desk_limit_text(limit)) == 0);
+    }
     CHECK("names", (int)STALL_KIND_FRAME == (int)DESK_KIND_FRAME);
     CHECK("names", (int)STALL_KIND_ENTRY_GATE == (int)DESK_KIND_ENTRY_GATE);
     CHECK("names", (int)STALL_KIND_EXIT_GATE == (int)DESK_KIND_EXIT_GATE);
@@ -42,7 +48,17 @@ static void reads(const uint8_t *file, uint64_t file_len)
     }
 }
 
-/* Writes, reads, fills, tests a route. */
+/* A bar is behind each cell of a map that is filled, and behind no other. */
+static void bars(const uint8_t *file, uint64_t file_len, uint8_t map)
+{
+    for (uint64_t cell = 0; cell < 8; cell++) {
+        int64_t weights[DESK_WEIGHTS];
+        uint64_t answer = desk_bar(file, file_len, cell, weights, DESK_WEIGHTS);
+        CHECK("bars", desk_tag(answer) == (unsigned)(map >> (7 - cell) & 1 ? DESK_DONE : DESK_CLEAR));
+    }
+}
+
+/* Writes, reads, fills, shows bars, tests a route. */
 int main(void)
 {
     static const int16_t free_low[6] = {0, 0, 0, 9, 9, 0};
@@ -52,6 +68,7 @@ int main(void)
     names();
     reads(file, desk_length(answer));
     CHECK("fills", stall_count(stall_fill(file, desk_length(answer), map, 1)) == 3 && map[0] == 0x70);
+    bars(file, desk_length(answer), map[0]);
     CHECK("routes", stall_tag(stall_route(file, desk_length(answer), map, 1, free_low, 6)) == STALL_FREE);
     return totals();
 }

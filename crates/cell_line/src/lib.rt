@@ -11,10 +11,10 @@ ghost use Rattle.text.specs.Text.{spaced};
 ghost use Rattle.text.specs.Inner.{Puts};
 ghost use Rattle.cell_line.specs.Line.{axisNumbers, axesLine, boxLine};
 
-// Puts "CELL" and the numbers of a cell at the start, and answers the line's length.
+// Puts "CELL" and the numbers of a cell at the start, and answers the line's length, which is at most 128.
 pub fn put_cell(out: &mut [u8], g: Grid, cell: usize) -> usize
     requires { ⌜ GridWithin (2 ^ 13) (2 ^ 8) g × (cell < cellCount g) × (128 ≤ length (now out)) ⌝ }
-    ensures { λ r. ⌜ Puts (now (out .entry)) 0 (boxLine g cell) (now (out .exit)) r ⌝ }
+    ensures { λ r. ⌜ Puts (now (out .entry)) 0 (boxLine g cell) (now (out .exit)) r × (r ≤ 128) ⌝ }
 {
     let o = g.origin;
     let row = cell / g.nx;
@@ -42,7 +42,7 @@ fn put_axes(
     k: usize,
 ) -> usize
     requires { ⌜ Within (2 ^ 8) edge × Within (2 ^ 13) x × Within (2 ^ 13) y × Within (2 ^ 13) z × (i < 64) × (j < 64) × (k < 64) × (128 ≤ length (now out)) ⌝ }
-    ensures { λ r. ⌜ Puts (now (out .entry)) 0 (axesLine edge x y z i j k) (now (out .exit)) r ⌝ }
+    ensures { λ r. ⌜ Puts (now (out .entry)) 0 (axesLine edge x y z i j k) (now (out .exit)) r × (r ≤ 128) ⌝ }
 {
     let first = text::put_word(out, 0, b"CELL ");
     let second = put_axis(out, first, x, i, edge);

@@ -90,13 +90,13 @@ module _ (t : Triangle) where
   through2 = ring ρ (dotᴱ (var 6) (var 7) (var 8)) (dotᴱ (var 0) (var 1) (var 2)) tt
 
 -- a difference does not depend on where its terms are measured from, and so the normal does not
-shift : (a b o : ℤ) → a -ℤ b ≡ (a -ℤ o) -ℤ (b -ℤ o)
+pub shift : (a b o : ℤ) → a -ℤ b ≡ (a -ℤ o) -ℤ (b -ℤ o)
 shift a b o = ring (a ∷ b ∷ o ∷ []) (var 0 ⊖ var 1) (var 0 ⊖ var 2 ⊖ (var 1 ⊖ var 2)) tt
 
 moved : (a b o : Point) → minus a b ≡ minus (minus a o) (minus b o)
 moved a b o = λ l. point (shift (a .x) (b .x) (o .x) l) (shift (a .y) (b .y) (o .y) l) (shift (a .z) (b .z) (o .z) l)
 
-normal-moved : (o : Point) (t : Triangle) → normal t ≡ normal (measuredFrom o t)
+pub normal-moved : (o : Point) (t : Triangle) → normal t ≡ normal (measuredFrom o t)
 normal-moved o t = λ l. cross (moved (t .v1) (t .v0) o l) (moved (t .v2) (t .v0) o l)
 
 -- ---- one edge, from the corner v to the corner w

@@ -1,5 +1,5 @@
 // What the programs for people share: an answer goes to standard output; what else the command that runs them has to know
-// goes to standard error, as one line.
+// goes to standard error, in lines.
 use libc::STDERR_FILENO;
 use libc::STDOUT_FILENO;
 

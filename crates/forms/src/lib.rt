@@ -47,7 +47,7 @@ fn turned(n: i64, c: i64) -> i64
 }
 
 // The edge (ea, eb) from the corner (va, vb), where n is the normal's component on the third axis.
-fn edge_form(n: i64, ea: i64, eb: i64, va: i64, vb: i64, step: i64, extent: i64) -> EdgeForm
+pub fn edge_form(n: i64, ea: i64, eb: i64, va: i64, vb: i64, step: i64, extent: i64) -> EdgeForm
     requires { ⌜ Withins edgeBounds (ea ∷ eb ∷ va ∷ vb ∷ step ∷ extent ∷ []) ⌝ }
     ensures { λ r. ⌜ r ≡ edgeForm n ea eb va vb step extent ⌝ }
 {
@@ -96,7 +96,7 @@ fn edge_between(n: Point, from: Point, to: Point, step: i64, extent: i64) -> Edg
 }
 
 // The plane with normal (nx, ny, nz) through the corner (x, y, z), turned so that it does not fall along w.
-fn plane_form(
+pub fn plane_form(
     nx: i64,
     ny: i64,
     nz: i64,

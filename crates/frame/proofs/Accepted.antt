@@ -29,7 +29,7 @@ use Rattle.layout.specs.declared.Header.{Header}
 use Rattle.layout.specs.Layout.{version1, recordStart}
 use Rattle.layout.proofs.Bounds.{version1-usable, grid-within, count-lt}
 use Rattle.frame.specs.File.{headerOf}
-use Rattle.frame.specs.Inner.{HasRecord}
+use Rattle.frame.specs.Inner.{HasRecord, Followed}
 use Rattle.frame.specs.Questions.{headerQuestions, fileQuestions, kindQuestion, checked, contents, reading}
 
 -- Questions 1 to 7, by the two parts of the check.
@@ -87,6 +87,7 @@ pub record AcceptedFile (s : List ℕ) (h : Header) : Type 0 where
   pub grid : UsableGrid (2 ^ 13) (2 ^ 8) (h .grid)
   pub count : h .count < 4096
   pub records : (i : ℕ) → i < h .count → HasRecord s i
+  pub followed : (i : ℕ) → i + 1 < h .count → Followed s i
 
 pub accepted : (s : List ℕ) (h : Header) → checked s ≡ gives h → AcceptedFile s h
 accepted s h e =
@@ -99,6 +100,7 @@ accepted s h e =
       grid = record { within = grid-within version1 version1-usable s; positive = p .edge };
       count = n;
       records = λ i l. record { number = omega arith; start = omega (arith, p .whole) };
+      followed = λ i l. record { number = omega arith; room = omega (arith, p .whole) };
     })
 
 module _ {s : List ℕ} {h : Header} (a : AcceptedFile s h) where

@@ -1,6 +1,6 @@
 -- What the reader of a record asks. Definitions only; no public promise cites them.
 use mathlib.Core.List.{List}
-use Prim.Native.Nat.{ℕ, _<_, _≤_}
+use Prim.Native.Nat.{ℕ, _+_, _<_, _≤_}
 use lib.ListN.{length}
 use Rattle.layout.specs.Layout.{version1, recordStart}
 
@@ -8,3 +8,8 @@ use Rattle.layout.specs.Layout.{version1, recordStart}
 pub record HasRecord (s : List ℕ) (i : ℕ) : Type 0 where
   pub number : i < 4096
   pub start : recordStart version1 i ≤ length s
+
+-- Record i and as many bytes behind it: another record stands there.
+pub record Followed (s : List ℕ) (i : ℕ) : Type 0 where
+  pub number : i < 4096
+  pub room : recordStart version1 i + 32 ≤ length s

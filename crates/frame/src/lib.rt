@@ -17,7 +17,7 @@ ghost use Rattle.layout.specs.Layout.{recordStart};
 ghost use Rattle.layout.specs.Values.{reservedIn};
 ghost use Rattle.layout.specs.Taken.{UsableLayout, BoundedHeader};
 ghost use Rattle.frame.specs.File.{recordOf};
-ghost use Rattle.frame.specs.Inner.{HasRecord};
+ghost use Rattle.frame.specs.Inner.{HasRecord, Followed};
 ghost use Rattle.frame.specs.Questions.{axisFits, extentFits, headerQuestions, kindQuestion, checked, reading, saidCheck, saidReading};
 
 // On one axis, is origin + cells × edge at most the farthest coordinate?
@@ -124,6 +124,27 @@ pub fn record(file: &[u8], i: usize) -> Record
     layout::read_record(layout, part)
 }
 
+// Record i of a file that has it, be it the last or not: for a caller that reads one.
+pub fn one_record(file: &[u8], i: usize) -> Record
+    requires { ⌜ HasRecord (now file) i ⌝ }
+    ensures { λ r. ⌜ r ≡ recordOf (now (file .entry)) i ⌝ }
+{
+    let layout = layout::version_1();
+    let own = layout::from_record(layout, file, i);
+    layout::read_record(layout, own)
+}
+
+// The same of a record with another behind it, as all but the last have: its 32 bytes are there, and no length is looked at at all. It is for a
+// search that leaves most records after some of their fields, so that the others are not taken.
+pub fn record_inside(file: &[u8], i: usize) -> Record
+    requires { ⌜ Followed (now file) i ⌝ }
+    ensures { λ r. ⌜ r ≡ recordOf (now (file .entry)) i ⌝ }
+{
+    let layout = layout::version_1();
+    let bytes = layout::from_record(layout, file, i);
+    layout::read_inside(layout, bytes)
+}
+
 // What a plain reading answers: the header's values with a record's, or with none, or the first limit broken.
 pub enum Reading {
     Found(Header, Record),
@@ -139,9 +160,7 @@ pub fn read(file: &[u8], i: usize) -> Reading
         Checked::Refused(limit) => Reading::Refused(limit),
         Checked::Accepted(header) => {
             if i < header.count {
-                let layout = layout::version_1();
-                let part = layout::from_record(layout, file, i);
-                Reading::Found(header, layout::read_record(layout, part))
+                Reading::Found(header, one_record(file, i))
             } else {
                 Reading::NoRecord(header)
             }

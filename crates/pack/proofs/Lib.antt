@@ -1,2 +1,3 @@
 pub mod Unpack
 pub mod Fitting
+pub mod File

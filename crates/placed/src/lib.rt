@@ -138,7 +138,7 @@ fn component(a0: i64, b0: i64, a1: i64, b1: i64, a2: i64, b2: i64) -> i64
 }
 
 // A triangle's normal.
-fn normal(t: Triangle) -> Point
+pub fn normal(t: Triangle) -> Point
     requires { ⌜ TriangleWithin offsetMax t ⌝ }
     ensures { λ r. ⌜ r ≡ normal t ⌝ }
 {
@@ -152,7 +152,7 @@ fn normal(t: Triangle) -> Point
 }
 
 // A triangle, measured from the point `origin`.
-fn measured_from(origin: Point, t: Triangle) -> Triangle
+pub fn measured_from(origin: Point, t: Triangle) -> Triangle
     requires { ⌜ BoundedPoint origin × BoundedTriangle t ⌝ }
     ensures { λ r. ⌜ r ≡ measuredFrom origin t ⌝ }
 {

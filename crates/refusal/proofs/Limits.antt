@@ -7,7 +7,7 @@ use mathlib.Core.Path.{_≡_, refl, sym, ap₂, _∙_}
 use Prim.Native.Nat.{ℕ}
 use lib.Dec.{eqb}
 use Rattle.refusal.specs.declared.Limit.{Limit}
-use Rattle.refusal.specs.declared.Limit.the-variants.{ShortHeader, Version, ZeroEdge, ReservedBits, Extent, FileLength, UnusedKind, ShortMap, PointCount, PointOutside, ShortOutput, Unwritable}
+use Rattle.refusal.specs.declared.Limit.the-variants.{ShortHeader, Version, ZeroEdge, ReservedBits, Extent, FileLength, UnusedKind, ShortMap, PointCount, PointOutside, ShortOutput, Unwritable, CellOutside}
 use Rattle.refusal.specs.Limit.{Answer, refusalOf, saidLimit}
 
 -- Number n where it is asked for, and else another limit.
@@ -26,7 +26,8 @@ limitOf n p =
     (is n 8 ShortMap
     (is n 9 PointCount
     (is n 10 (PointOutside p)
-    (is n 11 ShortOutput Unwritable))))))))))
+    (is n 11 ShortOutput
+    (is n 12 Unwritable CellOutside)))))))))))
 
 pub limit-back : (l : Limit) → limitOf (refusalOf l .number) (refusalOf l .place) ≡ l
 limit-back ShortHeader = refl
@@ -41,6 +42,7 @@ limit-back PointCount = refl
 limit-back (PointOutside m) = refl
 limit-back ShortOutput = refl
 limit-back Unwritable = refl
+limit-back CellOutside = refl
 
 pub limit-one : {A : Type 0} (l k : Limit) → _≡_ {A = Answer A} (saidLimit l) (saidLimit k) → l ≡ k
 limit-one l k e =

@@ -16,6 +16,7 @@ pub enum Limit {
     PointOutside(usize),
     ShortOutput,
     Unwritable,
+    CellOutside,
 }
 
 // What a refused call says: the number of the first limit broken, and the place.
@@ -49,6 +50,7 @@ impl Limit {
             Limit::PointOutside(m) => numbered(10, m),
             Limit::ShortOutput => numbered(11, 0),
             Limit::Unwritable => numbered(12, 0),
+            Limit::CellOutside => numbered(16, 0),
         }
     }
 }

@@ -17,7 +17,7 @@ use Rattle.frame.specs.File.{headerOf}
 use Rattle.refusal.specs.Limit.{Answer, gives, refused}
 use Rattle.refusal.specs.Questions.{answered, ofEach}
 use Rattle.refusal.specs.Inner.{Passing, asked}
-use Rattle.frame.specs.Questions.{fileQuestions, headerQuestions, kindQuestion, reading}
+use Rattle.frame.specs.Questions.{fileQuestions, reading}
 use Rattle.refusal.proofs.Asking.{stopped, through, andThen, first-append}
 use Rattle.layout.proofs.Bounds.{version1-usable, header-bounded}
 use Rattle.grid.specs.Grid.{cellCount}
@@ -33,6 +33,7 @@ use Rattle.demand.proofs.Points.{points-length}
 use Rattle.demand.proofs.Demand.{blocked-in}
 use Rattle.pack.proofs.Unpack.{Fits, FitsCount, FitsAlways}
 use Rattle.pack.proofs.Fitting.{FitAll, fit-append, fit-each, answered-fits}
+use Rattle.pack.proofs.File.{file-fits}
 use Rattle.stall.proofs.Unpack.{FitsFinding}
 
 -- ---- questions
@@ -46,18 +47,8 @@ module _ (s : List ℕ) where
   abbrev h : Header
   h = headerOf s
 
-  -- a question with a number up to 10 and the place 0
-  few : {n : ℕ} → n ≤ 10 → (n < 2 ^ 8) × (0 < 2 ^ 32)
-  few l = (omega arith, lit< tt)
-
-  file-fits : FitAll (fileQuestions s)
-  file-fits =
-      fit-append (headerQuestions version1 h s) (ofEach (kindQuestion version1 s) (h .count))
-      (few (omega arith), (few (omega arith), (few (omega arith), (few (omega arith), (few (omega arith), (few (omega arith), tt))))))
-      (fit-each (kindQuestion version1 s) (h .count) (λ i l. (lit< tt, omega (arith, header-bounded version1 version1-usable s .count))))
-
   fill-fits : (len : ℕ) → FitAll (fillQuestions s len)
-  fill-fits len = fit-append (fileQuestions s) (mapQuestion (gridOf s) len ∷ []) file-fits (few (omega arith), tt)
+  fill-fits len = fit-append (fileQuestions s) (mapQuestion (gridOf s) len ∷ []) (file-fits s) ((lit< tt, lit< tt), tt)
 
   cells-most : cellCount (gridOf s) ≤ 64 * 64 * 64
   cells-most = let g = header-bounded version1 version1-usable s .grid in mul-le-mul (mul-le-mul (g .x .most) (g .y .most)) (g .z .most)
@@ -65,7 +56,7 @@ module _ (s : List ℕ) where
   -- ---- the calls
   pub reading-fits : (i : ℕ) → Fits FitsAlways (reading s i)
   unfolding reading
-  reading-fits i = answered-fits FitsAlways _ (fileQuestions s) file-fits tt
+  reading-fits i = answered-fits FitsAlways _ (fileQuestions s) (file-fits s) tt
 
   -- a call that puts these questions and gives a small number
   count-fits : (len : ℕ) {n : ℕ} → n < 2 ^ 32 → Fits FitsCount (answered (fillQuestions s len) n)

@@ -1,10 +1,10 @@
 // The route tester: a frame file from standard input, a route's numbers as arguments; the answer to standard output.
-// Where the route is blocked, the cell's place and box go to standard error. An argument that is no number of 16 bits
-// gives no answer: its place goes to standard error.
-use frame::Checked;
+// Where the route is blocked, the cell's place and box and the bar behind it go to standard error. An argument that is no
+// number of 16 bits gives no answer: its place goes to standard error.
 use libc::STDIN_FILENO;
 use parse::Word;
 use route::RouteAnswer;
+use service::BarAnswer;
 ghost use Prim.Native.Nat.{_≤_, _<_};
 ghost use lib.ListN.{length};
 
@@ -71,7 +71,7 @@ fn argument(place: usize) -> i64 {
 // Reads the file, fills the map, tests the route of the first `count` numbers, and writes the answer. Where the file is refused,
 // the test says so too.
 fn answer(file: &mut [u8], map: &mut [u8], numbers: &[i16], count: usize, out: &mut [u8])
-    requires { ⌜ 128 ≤ length (now out) ⌝ }
+    requires { ⌜ 512 ≤ length (now out) ⌝ }
 {
     let len = io::read_full(STDIN_FILENO, file);
     let read = &file[..len];
@@ -84,7 +84,7 @@ fn answer(file: &mut [u8], map: &mut [u8], numbers: &[i16], count: usize, out: &
         RouteAnswer::Blocked(leg, cell) => {
             let line = text::put_blocked(out, leg, cell);
             if console::send(out, line) {
-                say_cell(read, cell, out);
+                say_bar(read, cell, out);
             }
         }
         RouteAnswer::Refused(limit) => {
@@ -102,17 +102,16 @@ fn test(file: &[u8], map: &[u8], numbers: &[i16], count: usize) -> RouteAnswer {
     route::test_route(file, map, numbers)
 }
 
-// Says where a cell of the file's grid is.
-fn say_cell(file: &[u8], cell: usize, out: &mut [u8])
-    requires { ⌜ 128 ≤ length (now out) ⌝ }
+// Says the bar behind a filled cell: where the cell is, the triangle that reaches it, and a point of it there.
+fn say_bar(file: &[u8], cell: usize, out: &mut [u8])
+    requires { ⌜ 512 ≤ length (now out) ⌝ }
 {
-    match frame::check(file) {
-        Checked::Accepted(header) => {
-            if cell < grid::cell_count(header.grid) {
-                let line = cell_line::put_cell(out, header.grid, cell);
-                console::say(out, line);
-            }
+    match service::behind(file, cell) {
+        BarAnswer::Bar(i, w) => {
+            let lines = bar_line::put_behind(out, file, cell, i, w);
+            console::say(out, lines);
         }
-        Checked::Refused(_) => {}
+        BarAnswer::Clear => {}
+        BarAnswer::Refused(_) => {}
     }
 }

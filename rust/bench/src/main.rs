@@ -1,5 +1,5 @@
-//! Fills maps, tests routes and writes files by the verified libraries and by peers written in Rust,
-//! to count instructions, to time, and to compare.
+//! Fills maps, tests routes, writes files and shows bars by the verified libraries and by peers written in
+//! Rust, to count instructions, to time, and to compare.
 //!
 //! ```text
 //! bench fill PEER SCENE CELLS N       fill the scene's map N times, CELLS cells a side
@@ -7,13 +7,16 @@
 //! bench route PEER SHAPE ANSWER N     test a route of 63 legs N times: slim or wide, free or blocked
 //! bench legs PEER SCENE WAY N         test 64 blocked legs N times, each by a call: from, into, up or down
 //! bench write PEER N                  write a file of 4,095 triangles N times
+//! bench bar PEER SCENE N              search for the bars behind the scene's cells N times: far, around, last or stall
 //! bench time fill SCENE CELLS         print the microseconds of rattle and of halving
 //! bench time route SHAPE ANSWER       print the microseconds of rattle, rows, box and cells
 //! bench time write                    print the microseconds of rattle and of words
-//! bench stack                         print the greatest stack of a fill, a route test, a reading and a write
+//! bench time bar SCENE                print the microseconds of rattle and of records, of all cells of the scene
+//! bench stack                         print the greatest stack of a fill, a route test, a reading, a write, a bar
 //! bench check                         hold every peer to the documents as printed, and to the others
 //! ```
 
+mod bar;
 mod coming;
 mod frame;
 mod halving;
@@ -160,8 +163,25 @@ fn time_write() -> Vec<f64> {
     }))
 }
 
-/// The greatest stack of a fill, over the scenes; of a route test, over the routes; of a reading; of a write.
-fn stacks() -> [usize; 4] {
+/// Searches for the bars behind some cells of a file, a call for each.
+fn search_bars(search: bar::Search, file: &[u8], cells: &[usize]) {
+    for cell in cells {
+        black_box(search(black_box(file), black_box(*cell)).unwrap());
+    }
+}
+
+/// The times of the searches for bars.
+fn time_bar(scene: &str) -> Vec<f64> {
+    let (file, cells) = bar::scene(scene);
+    time::medians(&mut bar::PEERS.map(|(_, search)| {
+        let (file, cells) = (&file, &cells);
+        move || search_bars(search, file, cells)
+    }))
+}
+
+/// The greatest stack of a fill, over the scenes; of a route test, over the routes; of a reading; of a write; of a bar, over
+/// the scenes and their cells.
+fn stacks() -> [usize; 5] {
     let mut map = vec![0; LENT];
     let fills = scenes::SCENES.map(|scene| stack::fill(&scenes::file(scene, 64), &mut map));
     let tests = routes::ROUTES.map(|(shape, answer)| {
@@ -170,11 +190,16 @@ fn stacks() -> [usize; 4] {
     });
     let reading = stack::read(&scenes::file("rails", 64));
     let (grid, triangles) = writing::values();
+    let bars = bar::SCENES.into_iter().flat_map(|scene| {
+        let (file, cells) = bar::scene(scene);
+        cells.into_iter().map(move |cell| stack::bar(&file, cell))
+    });
     [
         fills.into_iter().max().unwrap(),
         tests.into_iter().max().unwrap(),
         reading,
         stack::write(&grid, &triangles),
+        bars.max().unwrap(),
     ]
 }
 
@@ -192,6 +217,7 @@ fn main() {
             check();
             routes::check();
             writing::check();
+            bar::check();
         }
         ["count", scene, cells] => {
             let file = scenes::file(scene, cells.parse().unwrap());
@@ -201,6 +227,7 @@ fn main() {
         ["time", "fill", scene, cells] => print(&time_fill(scene, cells.parse().unwrap())),
         ["time", "route", shape, answer] => print(&time_route(shape, answer)),
         ["time", "write"] => print(&time_write()),
+        ["time", "bar", scene] => print(&time_bar(scene)),
         ["fill", peer, scene, cells, times] => {
             let fill = named(&PEERS, peer);
             let file = scenes::file(scene, cells.parse().unwrap());
@@ -224,6 +251,13 @@ fn main() {
             for _ in 0..times.parse().unwrap() {
                 let (grid, triangles) = (black_box(&grid), black_box(&triangles));
                 black_box(write(grid, triangles, black_box(&mut out)).unwrap());
+            }
+        }
+        ["bar", peer, scene, times] => {
+            let search = named(&bar::PEERS, peer);
+            let (file, cells) = bar::scene(scene);
+            for _ in 0..times.parse().unwrap() {
+                search_bars(search, &file, &cells);
             }
         }
         _ => panic!("see the first lines of main.rs"),

@@ -22,6 +22,17 @@ pub fn write(grid: &[i32], triangles: &[i32], out: &mut [u8]) -> Result<usize, R
     independent::write_file(grid, triangles, out).map_err(refusal)
 }
 
+/// The number of the record behind a cell.
+pub fn bar(file: &[u8], cell: usize) -> Result<Option<usize>, Refusal> {
+    independent::bar(file, cell).map_err(refusal)
+}
+
+/// Do the weights of a bar show that it reaches a cell of an accepted file?
+pub fn shows(file: &[u8], cell: usize, bar: &desk::Bar) -> bool {
+    let (header, record) = independent::read(file, bar.record).unwrap();
+    independent::weights_show(&header, &record.unwrap(), cell, bar.weights)
+}
+
 /// A refusal in the library's type.
 fn refusal(no: independent::Refusal) -> Refusal {
     Refusal {

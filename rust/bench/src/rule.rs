@@ -32,7 +32,7 @@ pub struct Setup {
 }
 
 /// The cross product of v1 - v0 and v2 - v0.
-fn normal([v0, v1, v2]: &Triangle) -> Point {
+pub fn normal([v0, v1, v2]: &Triangle) -> Point {
     PLANES.map(|(u, v)| (v1[u] - v0[u]) * (v2[v] - v0[v]) - (v1[v] - v0[v]) * (v2[u] - v0[u]))
 }
 

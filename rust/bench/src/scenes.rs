@@ -165,7 +165,7 @@ pub fn near_corner(random: &mut Random, high: bool) -> Point {
 }
 
 /// A file for a grid and triangles, all of kind 0.
-fn write(grid: &Grid, triangles: &[Triangle]) -> Vec<u8> {
+pub fn write(grid: &Grid, triangles: &[Triangle]) -> Vec<u8> {
     let header = Header {
         version: 1,
         cells: grid.cells.map(|n| n as i64),

@@ -1,7 +1,7 @@
 //! How much stack the libraries' calls take: a call runs on painted bytes, and the paint that is left
 //! is counted. For x86-64.
 
-use desk::library::desk_write;
+use desk::library::{desk_bar, desk_write};
 use stall::library::{stall_fill, stall_read, stall_route};
 use std::arch::asm;
 
@@ -78,4 +78,14 @@ pub fn write(grid: &[i32], triangles: &[i32]) -> usize {
     let arguments = [grid, grid_len, triangles, triangles_len, out, out_len];
     // SAFETY: the slices outlive the call, and the library keeps none.
     unsafe { depth(desk_write as *const (), arguments) }
+}
+
+/// The stack of a search for the bar behind a cell.
+pub fn bar(file: &[u8], cell: usize) -> usize {
+    let mut weights = [0i64; desk::WEIGHTS];
+    let (file, file_len) = (file.as_ptr() as usize, file.len());
+    let weights_at = weights.as_mut_ptr() as usize;
+    let arguments = [file, file_len, cell, weights_at, weights.len(), 0];
+    // SAFETY: the slices outlive the call, and the library keeps neither.
+    unsafe { depth(desk_bar as *const (), arguments) }
 }

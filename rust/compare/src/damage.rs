@@ -14,6 +14,9 @@ fn calls(tally: &mut Tally, random: &mut Random, file: &[u8], numbers: &[i16], r
     let record = random.below(7);
     tally.read(random, file, record, 19);
     tally.write_back(file);
+    // some of these cells are not in the grid
+    let (cell, room) = (random.below(20), random.below(6));
+    tally.bar(random, file, cell, room);
 }
 
 /// Every truncation, every flip of one bit and some bytes more, of four files. Gives how many files that were.

@@ -1,10 +1,11 @@
 //! Compares the verified libraries with the independent version.
 //!
-//!     compare          pseudo-random frames and routes, damaged files, short and long buffers, values to write
+//!     compare          pseudo-random frames and routes, damaged files, short and long buffers, values to write, bars
 //!     compare long     a million damaged files
 //!     compare cases    the cases that the program digests reads
 //!     compare digest   the lines that the program digests must print, from the independent version
 
+mod bars;
 mod clipped;
 mod damage;
 mod digest;
@@ -31,6 +32,11 @@ fn main() -> ExitCode {
                 tally.fill(&mut Random::new(0), &plate.write(), plate.map_bytes());
             }
             println!("plates: {} compared", plates.len());
+            let widest = scene::widest();
+            widest
+                .iter()
+                .for_each(|frame| bars::each(&mut tally, frame));
+            println!("widest: {} compared", widest.len());
             let damaged = damage::each(&mut tally);
             println!("damaged: {damaged} files compared");
             let writes = writing::each(&mut tally);
@@ -54,9 +60,13 @@ fn main() -> ExitCode {
     let kinds = clipped::KINDS.iter().zip(tally.kinds);
     let kinds: Vec<String> = kinds.map(|(kind, n)| format!("{n} {kind}")).collect();
     println!("blocked legs: {}", kinds.join(", "));
+    let kinds = bars::KINDS.iter().zip(tally.bars);
+    let kinds: Vec<String> = kinds.map(|(kind, n)| format!("{n} {kind}")).collect();
+    println!("bars: {}", kinds.join(", "));
     println!(
         "compare: {} fills ({} accepted), {} fills in steps, {} routes ({} free, {} blocked), {} readings, \
-         {} writes ({} written), {} round trips, {} failed",
+         {} writes ({} written), {} round trips, \
+         {} cells ({} with a bar, {} clear, {} outside), {} failed",
         tally.fills,
         tally.accepted,
         tally.steps,
@@ -67,6 +77,10 @@ fn main() -> ExitCode {
         tally.writes,
         tally.written,
         tally.round_trips,
+        tally.cells,
+        tally.behind,
+        tally.clear,
+        tally.outside,
         tally.failed
     );
     if tally.failed == 0 {
@@ -76,7 +90,7 @@ fn main() -> ExitCode {
     }
 }
 
-/// One frame: fills of buffers of several lengths, routes on its map and on others, readings, and writing it.
+/// One frame: fills of buffers of several lengths, routes on its map and on others, readings, writing it, and its bars.
 fn frame(tally: &mut Tally, seed: u64) {
     tally.seed = seed;
     let mut random = Random::new(seed);
@@ -133,4 +147,5 @@ fn frame(tally: &mut Tally, seed: u64) {
     let (grid, triangles) = frame.numbers();
     tally.write(&mut random, &grid, &triangles, file.len() + 7);
     tally.write_back(&file);
+    bars::some(tally, &mut random, &frame, &map);
 }

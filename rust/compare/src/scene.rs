@@ -91,6 +91,22 @@ pub fn plates() -> Vec<Frame> {
     corners.map(plate).into()
 }
 
+/// A triangle with each of its corners in a corner of what a file can hold, in the widest grid: those that have the greatest
+/// weights.
+pub fn widest() -> Vec<Frame> {
+    let corner = |bits: usize| [0, 1, 2].map(|axis| [-8192, 8191][bits >> axis & 1]);
+    let frame = |bits: usize| Frame {
+        cells: [64; 3],
+        edge: 255,
+        origin: [-8192; 3],
+        triangles: vec![Record {
+            kind: 0,
+            corners: [0, 3, 6].map(|shift| corner(bits >> shift)),
+        }],
+    };
+    (0..512).map(frame).collect()
+}
+
 /// The largest grid.
 pub fn largest(random: &mut Random) -> Frame {
     let edge = random.between(1, 130);

@@ -1,5 +1,6 @@
 //! Puts the same question to both implementations, and counts.
 
+use crate::bars::{self, Shown};
 use crate::clipped::{self, Block};
 use crate::random::Random;
 
@@ -18,6 +19,12 @@ pub struct Tally {
     pub writes: usize,
     pub written: usize,
     pub round_trips: usize,
+    pub cells: usize,
+    pub behind: usize,
+    pub clear: usize,
+    pub outside: usize,
+    /// The cells with a bar behind them by what it is like.
+    pub bars: [usize; bars::KINDS.len()],
     pub failed: usize,
     /// The seed of what is compared now, for the message.
     pub seed: u64,
@@ -228,6 +235,63 @@ impl Tally {
                 &format!("{answer:?}"),
                 &format!("{apart:?}, {wanted:?}"),
             );
+        }
+    }
+
+    /// Both are asked for the bar behind a cell, the library with room for so many weights, of any contents: each bit of the
+    /// answer is as wanted, the weights show that the triangle reaches the cell, and all other numbers are as they were. The
+    /// wrapper gives the same. Gives whether there is a bar; none where the call is refused.
+    pub fn bar(
+        &mut self,
+        random: &mut Random,
+        file: &[u8],
+        cell: usize,
+        length: usize,
+    ) -> Option<bool> {
+        self.cells += 1;
+        let before: Vec<i64> = (0..length).map(|_| random.next() as i64).collect();
+        let mut weights = before.clone();
+        let answer = bars::call(file, cell, &mut weights);
+        let wrapped = desk::bar(file, cell).map_err(said);
+        let apart = independent::bar(file, cell).map_err(said_apart);
+        let record = wrapped.map(|bar| bar.map(|bar| bar.record));
+        let mut good = answer == bars::packed(apart, length) && record == apart;
+        let mut written = 0;
+        if let (Ok(Some(bar)), Ok(Some(record))) = (wrapped, apart) {
+            let shown = Shown::new(file, cell, record);
+            good &= shown.by(bar.weights);
+            if let Some(first) = weights.first_chunk() {
+                written = first.len();
+                good &= shown.by(*first);
+            }
+            for (count, is) in self.bars.iter_mut().zip(shown.kinds()) {
+                *count += usize::from(is);
+            }
+        }
+        if !good || weights[written..] != before[written..] {
+            let lent = format!("cell {cell}, room for {length}: {before:?}, then {weights:?}");
+            self.differ(
+                "bar",
+                file,
+                &lent,
+                &format!("{answer:#018x}, {wrapped:?}"),
+                &format!("{apart:?}"),
+            );
+        }
+        self.behind += usize::from(matches!(apart, Ok(Some(_))));
+        self.clear += usize::from(apart == Ok(None));
+        self.outside += usize::from(apart == Err((16, 0)));
+        apart.ok().map(|record| record.is_some())
+    }
+
+    /// A bar is behind each filled cell of a map that a fill left, and behind no other.
+    pub fn bar_of_map(&mut self, random: &mut Random, file: &[u8], map: &[u8], cell: usize) {
+        let length = random.below(6);
+        let filled = map[cell / 8] & 0x80 >> (cell % 8) != 0;
+        let bar = self.bar(random, file, cell, length);
+        if bar.is_some_and(|bar| bar != filled) {
+            let lent = format!("cell {cell}, filled: {filled}");
+            self.differ("map and bar", file, &lent, &format!("{bar:?}"), "-");
         }
     }
 

@@ -1,4 +1,5 @@
-//! The verified library for the drawing office and the service laptop, in safe Rust: frame files are written.
+//! The verified library for the drawing office and the service laptop, in safe Rust: frame files are written, and the bar
+//! behind a filled cell is shown.
 //!
 //! The work is done by `libdesk.a`, which is proved; this crate only passes slices on and takes answers apart. It needs no
 //! standard library and allocates nothing. The frame file, and what to do about each limit, are in `docs/FORMAT.md` of the
@@ -17,6 +18,11 @@
 //! assert_eq!(desk::write(&grid, &triangles, &mut file)?, 28);
 //! assert_eq!(file[..4], [0x10, 0x41, 0x04, 0x28]);
 //!
+//! // The triangle is behind cell 1, and does not reach cell 0.
+//! let bar = desk::bar(&file, 1)?.unwrap();
+//! assert_eq!(bar.record, 0);
+//! assert_eq!(desk::bar(&file, 0)?, None);
+//!
 //! let far = Grid { origin: [0, 0, 8172], ..grid };
 //! let refusal = desk::write(&far, &triangles, &mut file).unwrap_err();
 //! assert_eq!(refusal.limit, desk::Limit::Unwritable);
@@ -33,9 +39,11 @@
 #![no_std]
 #![deny(missing_docs)]
 
+mod bar;
 pub mod library;
 mod writing;
 
+pub use bar::{Bar, bar};
 pub use shared::{Kind, Limit, Refusal};
 pub use writing::{Grid, Triangle, file_len, write, write_numbers};
 
@@ -47,6 +55,8 @@ pub const FILE_MOST: usize = file_len(TRIANGLES_MOST);
 pub const GRID_NUMBERS: usize = 7;
 /// How many numbers [`write_numbers`] takes for a triangle.
 pub const TRIANGLE_NUMBERS: usize = 10;
+/// How many weights a [`Bar`] has: one a corner.
+pub const WEIGHTS: usize = 3;
 
 /// A point: x, y and z, in whole millimetres.
 pub type Point = [i32; 3];

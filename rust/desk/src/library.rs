@@ -11,4 +11,13 @@ unsafe extern "C" {
         out: *mut u8,
         out_len: u64,
     ) -> u64;
+
+    /// Says which triangle of a frame file is behind a cell.
+    pub fn desk_bar(
+        file: *const u8,
+        file_len: u64,
+        cell: u64,
+        weights: *mut i64,
+        weights_len: u64,
+    ) -> u64;
 }

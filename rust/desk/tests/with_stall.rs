@@ -70,6 +70,23 @@ fn fills_what_is_written() {
     assert_eq!(limit(write_and_fill(&mut file, &mut [])), Limit::ShortMap);
 }
 
+/// A cell is filled where there is a bar behind it, and clear where there is none.
+#[test]
+fn bars_behind_filled_cells() {
+    let file = file(&TRIANGLES);
+    let mut map = [0];
+    assert_eq!(stall::fill(&file, &mut map), Ok(3));
+    for cell in 0..8 {
+        let bar = desk::bar(&file, cell).unwrap();
+        assert_eq!(bar.is_some(), map[0] & 0x80 >> cell != 0);
+        if let Some(bar) = bar {
+            let record = stall::read(&file, bar.record).unwrap().record;
+            assert_eq!(record.map(triangle), Some(TRIANGLES[0]));
+        }
+    }
+    assert_eq!(desk::bar(&file, 8).unwrap_err().limit, Limit::CellOutside);
+}
+
 /// The library writes the example that the documents decode byte by byte.
 #[test]
 fn writes_the_example() {

@@ -3,6 +3,7 @@
 //! It is written to be compared with: each part follows the documents' sentences in their order, and nothing is done to be
 //! quick. The libraries and this crate share no code.
 
+mod bar;
 mod frame;
 mod lister;
 mod map;
@@ -10,6 +11,7 @@ mod overlap;
 mod route;
 mod write;
 
+pub use bar::{bar, weights_show};
 pub use frame::{read, Header, Record};
 pub use lister::list;
 pub use map::fill;

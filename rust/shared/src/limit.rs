@@ -4,7 +4,8 @@ use core::error::Error;
 use core::fmt::{self, Display, Formatter};
 
 /// A limit that an input breaks, named by what is wrong with it. Limits 1 to 10 are those of `stall`, which asks for them in
-/// this order. Limits 11 and 12 are those of `desk`, which asks for 12 first. The first that is broken refuses the call.
+/// this order. Limits 11 and 12 are those of `desk`'s call `write`, which asks for 12 first. Its call `bar` asks for 1 to 7 in
+/// this order, and for 16 last. No limit has the numbers 13 to 15. The first that is broken refuses the call.
 /// `docs/FORMAT.md` says what to do about each.
 ///
 /// ```
@@ -43,11 +44,13 @@ pub enum Limit {
     /// 12: a value is outside its field, on some axis the grid reaches beyond 8,191, or the list has more than 4,095
     /// triangles or a part of one.
     Unwritable = 12,
+    /// 16: the cell number is not in the grid.
+    CellOutside = 16,
 }
 
 impl Limit {
     /// All limits, by their numbers.
-    pub const ALL: [Limit; 12] = [
+    pub const ALL: [Limit; 13] = [
         Limit::ShortHeader,
         Limit::Version,
         Limit::ZeroEdge,
@@ -60,9 +63,10 @@ impl Limit {
         Limit::PointOutside,
         Limit::ShortOutput,
         Limit::Unwritable,
+        Limit::CellOutside,
     ];
 
-    /// The limit's number, 1 to 12.
+    /// The limit's number: 1 to 12, or 16.
     pub const fn number(self) -> u8 {
         self as u8
     }
@@ -71,6 +75,7 @@ impl Limit {
     pub const fn from_number(number: u8) -> Option<Limit> {
         match number {
             1..=12 => Some(Limit::ALL[number as usize - 1]),
+            16 => Some(Limit::CellOutside),
             _ => None,
         }
     }
@@ -92,6 +97,7 @@ impl Limit {
             Limit::Unwritable => {
                 "a value, the grid's far corner or the list of triangles does not fit a file"
             }
+            Limit::CellOutside => "the cell number is not in the grid",
         }
     }
 }

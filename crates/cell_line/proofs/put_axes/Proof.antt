@@ -35,8 +35,10 @@ returns c =
     let p1 = p2 .before .before .before .before in
     let s = start p1 in
     let room : 0 ≤ length (s .args .out .now) = omega arith in
-    rw (← toZ-ofZ (s .fits .x), ← toZ-ofZ (s .fits .y), ← toZ-ofZ (s .fits .z), ← toZ-ofZ (s .fits .edge))
-    (puts-more room (puts-more room (puts-more room (puts-more room (p1 .put-word .ensures) (p2 .put-axis .ensures .0)) (p3 .put-axis2 .ensures .0)) (p4 .put-axis3 .ensures .0)) (p5 .put-byte .ensures))
+    rw (← toZ-ofZ (s .fits .x), ← toZ-ofZ (s .fits .y), ← toZ-ofZ (s .fits .z), ← toZ-ofZ (s .fits .edge)) (
+      puts-more room (puts-more room (puts-more room (puts-more room (p1 .put-word .ensures) (p2 .put-axis .ensures .0)) (p3 .put-axis2 .ensures .0)) (p4 .put-axis3 .ensures .0)) (p5 .put-byte .ensures),
+      omega (arith, p1 .put-word .ensures .next, p2 .put-axis .ensures .1, p3 .put-axis2 .ensures .1, p4 .put-axis3 .ensures .1, p5 .put-byte .ensures .next),
+    )
 
 pub put-axes-spec : {M : Type 1} → statement M
 put-axes-spec =

@@ -2,12 +2,9 @@
 use borrow.Author.Needs.{needs}
 use borrow.Author.Tests.{lt-ltb, le-ltb}
 use mathlib.Core.List.{List}
-use mathlib.Core.Path.{_≡_, sym, ap, ap₂, _∙_}
+use mathlib.Core.Path.{_≡_, sym, ap, _∙_}
 use Prim.Native.Nat.{ℕ}
-use Rattle.layout.specs.declared.Layout.{Layout}
 use Rattle.layout.specs.declared.Record.{Record}
-use Rattle.layout.specs.Values.{recordIn, fromRecord}
-use Rattle.layout.proofs.Bounds.{version1-usable}
 use Rattle.refusal.specs.Limit.{gives}
 use Rattle.frame.specs.Questions.{checked, withRecord, saidCheck}
 use Rattle.frame.proofs.Accepted.{accepted, reading-refused, reading-accepted}
@@ -28,13 +25,11 @@ returns c =
 
 returns-2 : tie.Need-returns-2
 returns-2 c =
-    let l = c .before .before in
-    let h = l .before .before .before .before in
+    let h = c .before .before .before .before in
     let s = bytes (h .before .before) in
     let i = h .before .before .before .before .args .i in
-    let part = c .before .from-record .ensures ∙ ap (λ (m : Layout). fromRecord m s i) (l .version-1 .ensures) in
-    rw (reading-accepted s i (h .header .given .0 .0) (yes h), lt-ltb i (h .header .given .0 .0 .count) (l .before .if1 .taken))
-    (ap (λ (r : Record). gives (withRecord (h .header .given .0 .0) r)) (c .read-record .ensures ∙ ap₂ recordIn (l .version-1 .ensures) part))
+    rw (reading-accepted s i (h .header .given .0 .0) (yes h), lt-ltb i (h .header .given .0 .0 .count) (c .before .if1 .taken))
+    (ap (λ (r : Record). gives (withRecord (h .header .given .0 .0) r)) (c .one-record .ensures))
 
 returns-3 : tie.Need-returns-3
 returns-3 c =
@@ -48,12 +43,7 @@ read-spec =
     (λ c κs. search needs)
     (λ c. search needs)
     (λ c. search needs)
-    (λ c κs. search needs)
-    (λ c κs.
-    let h = c .before .before .before .before in
-    let r = accepted (bytes (h .before .before)) (h .header .given .0 .0) (yes h) .records _ (c .before .if1 .taken) in
-    rw (c .version-1 .ensures) (version1-usable, r .number, r .start))
-    (λ c κs. rw (c .before .version-1 .ensures) version1-usable)
+    (λ c κs. let h = c .before .before .before in accepted (bytes (h .before .before)) (h .header .given .0 .0) (yes h) .records _ (c .if1 .taken))
     returns
     returns-2
     returns-3)

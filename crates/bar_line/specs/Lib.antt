@@ -1,0 +1,3 @@
+pub mod Line
+-- inner
+pub mod Inner

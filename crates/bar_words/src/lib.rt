@@ -1,0 +1,1 @@
+// Theorems about the bar behind a cell; no code.

@@ -1,0 +1,1 @@
+// Weights to try, by which a triangle may reach a box, and theorems about them; no code.

@@ -1,0 +1,6 @@
+-- The lowest record that has a property, and the lowest triangle that reaches a box.
+pub mod Lowest
+-- How large the numbers are.
+pub mod Sizes
+-- What the call answers.
+pub mod Answers

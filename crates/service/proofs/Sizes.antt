@@ -1,0 +1,44 @@
+-- How large the numbers are.
+--     triangle-within, triangle-bounded    a record's triangle
+--     corner-bounded                       the lowest corner of a cell's box, in a file's grid
+-- Assumes nothing.
+use mathlib.Core.List.{List, [], _∷_}
+use Prim.Native.Nat.{ℕ, _^_, _<_}
+use native.Mathlib.Omega.{arith}
+use lib.Dec.{lit≤}
+use lib.IntN.{ℤ, pos, _+ℤ_, _*ℤ_}
+use Rattle.integers.specs.Within.{Within}
+use Rattle.integers.proofs.Expr.{var, _⊕_, _⊗_}
+use Rattle.integers.proofs.Machine.{bound}
+use Rattle.integers.proofs.Bounds.{within-weaken}
+use Rattle.geometry.specs.Bounds.{coordinateMax, PointWithin, TriangleWithin, BoundedPoint, BoundedTriangle}
+use Rattle.geometry.specs.declared.Point.{Point}
+use Rattle.grid.specs.declared.Grid.{Grid}
+use Rattle.grid.specs.Grid.{cellCount, boxOfCell, latticeOf}
+use Rattle.grid.specs.Usable.{GridWithin}
+use Rattle.grid.proofs.Numbers.{x-lt, y-lt, z-lt}
+use Rattle.layout.specs.Layout.{version1}
+use Rattle.layout.specs.Values.{fromRecord}
+use Rattle.layout.proofs.Bounds.{record-within}
+use Rattle.frame.specs.File.{recordOf}
+
+pub triangle-within : (s : List ℕ) (i : ℕ) → TriangleWithin (2 ^ 13) (recordOf s i .triangle)
+triangle-within s i = record-within (fromRecord version1 s i)
+
+point-bounded : {p : Point} → PointWithin (2 ^ 13) p → BoundedPoint p
+point-bounded h = record { x = within-weaken (lit≤ tt) (h .x); y = within-weaken (lit≤ tt) (h .y); z = within-weaken (lit≤ tt) (h .z) }
+
+pub triangle-bounded : (s : List ℕ) (i : ℕ) → BoundedTriangle (recordOf s i .triangle)
+triangle-bounded s i = let t = triangle-within s i in record { v0 = point-bounded (t .v0); v1 = point-bounded (t .v1); v2 = point-bounded (t .v2) }
+
+-- on an axis
+along-within : {o e : ℤ} (i : ℕ) → Within (2 ^ 13) o → i < 64 → Within (2 ^ 8) e → Within coordinateMax (o +ℤ pos i *ℤ e)
+along-within {o} {e} i h l k =
+    within-weaken (lit≤ tt) (bound (o ∷ pos i ∷ e ∷ []) (var 0 ⊕ var 1 ⊗ var 2) (2 ^ 13 ∷ 64 ∷ 2 ^ 8 ∷ []) (h, (record { within = omega arith }, (k, tt))))
+
+pub corner-bounded : (g : Grid) (n : ℕ) → GridWithin (2 ^ 13) (2 ^ 8) g → n < cellCount g → BoundedPoint (boxOfCell g (latticeOf g) n)
+corner-bounded g n w l = record {
+  x = along-within _ (w .origin .x) (omega (arith, x-lt (g .nx) (g .ny) n (w .x .some), w .x .most)) (w .edge);
+  y = along-within _ (w .origin .y) (omega (arith, y-lt (g .nx) (g .ny) n (w .y .some), w .y .most)) (w .edge);
+  z = along-within _ (w .origin .z) (omega (arith, z-lt (g .nx) (g .ny) (g .nz) n (w .x .some) (w .y .some) l, w .z .most)) (w .edge);
+}

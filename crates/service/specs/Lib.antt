@@ -1,0 +1,3 @@
+pub mod Bar
+-- inner
+pub mod Inner

@@ -1,0 +1,3 @@
+pub mod Weights
+-- inner
+pub mod Inner
