@@ -1,8 +1,7 @@
--- How large the numbers are.
---     triangle-within, triangle-bounded    a record's triangle
---     corner-bounded                       the lowest corner of a cell's box, in a file's grid
+-- How large the numbers are of the lowest corner of a cell's box, in a file's grid.
+--     corner-bounded
 -- Assumes nothing.
-use mathlib.Core.List.{List, [], _∷_}
+use mathlib.Core.List.{[], _∷_}
 use Prim.Native.Nat.{ℕ, _^_, _<_}
 use native.Mathlib.Omega.{arith}
 use lib.Dec.{lit≤}
@@ -11,25 +10,11 @@ use Rattle.integers.specs.Within.{Within}
 use Rattle.integers.proofs.Expr.{var, _⊕_, _⊗_}
 use Rattle.integers.proofs.Machine.{bound}
 use Rattle.integers.proofs.Bounds.{within-weaken}
-use Rattle.geometry.specs.Bounds.{coordinateMax, PointWithin, TriangleWithin, BoundedPoint, BoundedTriangle}
-use Rattle.geometry.specs.declared.Point.{Point}
+use Rattle.geometry.specs.Bounds.{coordinateMax, BoundedPoint}
 use Rattle.grid.specs.declared.Grid.{Grid}
 use Rattle.grid.specs.Grid.{cellCount, boxOfCell, latticeOf}
 use Rattle.grid.specs.Usable.{GridWithin}
 use Rattle.grid.proofs.Numbers.{x-lt, y-lt, z-lt}
-use Rattle.layout.specs.Layout.{version1}
-use Rattle.layout.specs.Values.{fromRecord}
-use Rattle.layout.proofs.Bounds.{record-within}
-use Rattle.frame.specs.File.{recordOf}
-
-pub triangle-within : (s : List ℕ) (i : ℕ) → TriangleWithin (2 ^ 13) (recordOf s i .triangle)
-triangle-within s i = record-within (fromRecord version1 s i)
-
-point-bounded : {p : Point} → PointWithin (2 ^ 13) p → BoundedPoint p
-point-bounded h = record { x = within-weaken (lit≤ tt) (h .x); y = within-weaken (lit≤ tt) (h .y); z = within-weaken (lit≤ tt) (h .z) }
-
-pub triangle-bounded : (s : List ℕ) (i : ℕ) → BoundedTriangle (recordOf s i .triangle)
-triangle-bounded s i = let t = triangle-within s i in record { v0 = point-bounded (t .v0); v1 = point-bounded (t .v1); v2 = point-bounded (t .v2) }
 
 -- on an axis
 along-within : {o e : ℤ} (i : ℕ) → Within (2 ^ 13) o → i < 64 → Within (2 ^ 8) e → Within coordinateMax (o +ℤ pos i *ℤ e)

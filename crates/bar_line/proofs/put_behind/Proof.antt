@@ -19,7 +19,7 @@ use Rattle.numbers.specs.Numbers.{recordNumbers}
 use Rattle.numbers.specs.Inner.{Small}
 use Rattle.numbers.proofs.Readings.{record-small}
 use Rattle.service.proofs.Answers.{behind-given}
-use Rattle.service.proofs.Sizes.{triangle-within}
+use Rattle.frame.proofs.Triangles.{triangle-within}
 use Rattle.bar_line.specs.Line.{behindLines}
 use Rattle.bar_line.specs.Inner.{FewWeights}
 use Rattle.bar_line.proofs.put_behind.Statement.{statement}

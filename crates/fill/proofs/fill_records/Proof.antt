@@ -15,10 +15,11 @@ use Rattle.layout.specs.declared.Header.{Header}
 use Rattle.layout.specs.declared.Record.{Record}
 use Rattle.frame.specs.File.{recordOf}
 use Rattle.frame.proofs.Accepted.{AcceptedFile, accepted, header-is, usable}
+use Rattle.frame.proofs.Triangles.{triangle-bounded}
 use Rattle.triangles.specs.Add.{Adds, AddsTriangle}
 use Rattle.fill.specs.Fill.{anyOf}
 use Rattle.fill.specs.Part.{trianglesFrom}
-use Rattle.fill.proofs.Ready.{ready-grid, triangle-bounded}
+use Rattle.fill.proofs.Ready.{ready-grid}
 use Rattle.fill.proofs.Triangles.{adds-none, adds-more}
 use Rattle.fill.proofs.fill_records.Statement.{statement}
 use Rattle.fill.proofs.fill_records.Tie as tie

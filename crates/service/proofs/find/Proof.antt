@@ -20,10 +20,10 @@ use Rattle.reach.specs.Reaches.{ReachesBox}
 use Rattle.weights.specs.Weights.{Weighs}
 use Rattle.layout.specs.declared.Record.{Record}
 use Rattle.frame.specs.File.{recordOf}
+use Rattle.frame.proofs.Triangles.{triangle-bounded, triangle-within}
 use Rattle.service.specs.Bar.{NoneReaches}
 use Rattle.service.specs.Inner.{overlapsRecord}
 use Rattle.service.proofs.Lowest.{lowest-clear, lowest-at, overlap-reaches, apart-not}
-use Rattle.service.proofs.Sizes.{triangle-bounded, triangle-within}
 use Rattle.service.proofs.find.Statement.{statement}
 use Rattle.service.proofs.find.Tie as tie
 

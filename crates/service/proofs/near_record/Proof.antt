@@ -11,9 +11,9 @@ use Rattle.geometry.specs.Geometry.{cube}
 use Rattle.geometry.specs.Bounds.{BoundedTriangle}
 use Rattle.layout.specs.declared.Record.{Record}
 use Rattle.frame.specs.File.{recordOf}
+use Rattle.frame.proofs.Triangles.{triangle-bounded}
 use Rattle.service.specs.declared.Near.{Near}
 use Rattle.service.specs.Inner.{ByBox}
-use Rattle.service.proofs.Sizes.{triangle-bounded}
 use Rattle.service.proofs.near_record.Statement.{statement}
 use Rattle.service.proofs.near_record.Tie as tie
 

@@ -13,9 +13,9 @@ use Rattle.column_rule.specs.Column.{formsHold}
 use Rattle.column_rule.proofs.Law.{rule-parts}
 use Rattle.box_test.specs.Inner.{boxesHold}
 use Rattle.frame.specs.File.{recordOf}
+use Rattle.frame.proofs.Triangles.{triangle-bounded}
 use Rattle.service.specs.declared.Near.{Near}
 use Rattle.service.specs.Inner.{overlapsRecord, ByBox}
-use Rattle.service.proofs.Sizes.{triangle-bounded}
 use Rattle.service.proofs.overlaps.Statement.{statement}
 use Rattle.service.proofs.overlaps.Tie as tie
 
