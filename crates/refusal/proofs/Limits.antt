@@ -7,7 +7,7 @@ use mathlib.Core.Path.{_≡_, refl, sym, ap₂, _∙_}
 use Prim.Native.Nat.{ℕ}
 use lib.Dec.{eqb}
 use Rattle.refusal.specs.declared.Limit.{Limit}
-use Rattle.refusal.specs.declared.Limit.the-variants.{ShortHeader, Version, ZeroEdge, ReservedBits, Extent, FileLength, UnusedKind, ShortMap, PointCount, PointOutside, ShortOutput, Unwritable, CellOutside}
+use Rattle.refusal.specs.declared.Limit.the-variants.{ShortHeader, Version, ZeroEdge, ReservedBits, Extent, FileLength, UnusedKind, ShortMap, PointCount, PointOutside, ShortOutput, Unwritable, PlyForm, PlyVertex, PlyFace, CellOutside}
 use Rattle.refusal.specs.Limit.{Answer, refusalOf, saidLimit}
 
 -- Number n where it is asked for, and else another limit.
@@ -27,7 +27,10 @@ limitOf n p =
     (is n 9 PointCount
     (is n 10 (PointOutside p)
     (is n 11 ShortOutput
-    (is n 12 Unwritable CellOutside)))))))))))
+    (is n 12 Unwritable
+    (is n 13 PlyForm
+    (is n 14 (PlyVertex p)
+    (is n 15 (PlyFace p) CellOutside))))))))))))))
 
 pub limit-back : (l : Limit) → limitOf (refusalOf l .number) (refusalOf l .place) ≡ l
 limit-back ShortHeader = refl
@@ -42,6 +45,9 @@ limit-back PointCount = refl
 limit-back (PointOutside m) = refl
 limit-back ShortOutput = refl
 limit-back Unwritable = refl
+limit-back PlyForm = refl
+limit-back (PlyVertex k) = refl
+limit-back (PlyFace f) = refl
 limit-back CellOutside = refl
 
 pub limit-one : {A : Type 0} (l k : Limit) → _≡_ {A = Answer A} (saidLimit l) (saidLimit k) → l ≡ k

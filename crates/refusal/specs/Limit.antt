@@ -2,7 +2,7 @@
 use mathlib.Core.List.{List}
 use Prim.Native.Nat.{ℕ}
 use Rattle.refusal.specs.declared.Limit.{Limit}
-use Rattle.refusal.specs.declared.Limit.the-variants.{ShortHeader, Version, ZeroEdge, ReservedBits, Extent, FileLength, UnusedKind, ShortMap, PointCount, PointOutside, ShortOutput, Unwritable, CellOutside}
+use Rattle.refusal.specs.declared.Limit.the-variants.{ShortHeader, Version, ZeroEdge, ReservedBits, Extent, FileLength, UnusedKind, ShortMap, PointCount, PointOutside, ShortOutput, Unwritable, PlyForm, PlyVertex, PlyFace, CellOutside}
 use Rattle.refusal.specs.declared.Refusal.{Refusal}
 
 -- What a call says: it gives what was asked for; or it is refused, with a number and a place only.
@@ -27,6 +27,9 @@ refusalOf PointCount = numbered 9 0
 refusalOf (PointOutside m) = numbered 10 m
 refusalOf ShortOutput = numbered 11 0
 refusalOf Unwritable = numbered 12 0
+refusalOf PlyForm = numbered 13 0
+refusalOf (PlyVertex k) = numbered 14 k
+refusalOf (PlyFace f) = numbered 15 f
 refusalOf CellOutside = numbered 16 0
 
 -- What a call says that is refused for a limit.

@@ -16,6 +16,9 @@ pub enum Limit {
     PointOutside(usize),
     ShortOutput,
     Unwritable,
+    PlyForm,
+    PlyVertex(usize),
+    PlyFace(usize),
     CellOutside,
 }
 
@@ -50,6 +53,9 @@ impl Limit {
             Limit::PointOutside(m) => numbered(10, m),
             Limit::ShortOutput => numbered(11, 0),
             Limit::Unwritable => numbered(12, 0),
+            Limit::PlyForm => numbered(13, 0),
+            Limit::PlyVertex(k) => numbered(14, k),
+            Limit::PlyFace(f) => numbered(15, f),
             Limit::CellOutside => numbered(16, 0),
         }
     }
