@@ -29,10 +29,10 @@ use Rattle.writable.specs.Fits.{triangleNumbers, triangleFits, headerFits}
 use Rattle.writable.proofs.All.{all-of}
 use Rattle.frame_write.specs.declared.GridValues.{GridValues}
 use Rattle.frame_write.specs.Write.{headerToWrite, triangleCount, recordsBytes, fileBytes, writeQuestions}
-use Rattle.frame_write.proofs.Pieces.{length-pieces, piece-room}
+use Rattle.frame_write.proofs.Pieces.{length-pieces, piece-room, piece-at, pieces-same}
 use Rattle.round_trip.specs.RoundTrip.{gridValuesOf, recordsNumbers}
 use Rattle.round_trip.proofs.Joined.{join-split, held-split}
-use Rattle.round_trip.proofs.Files.{piece-at, pieces-same, pieces-cut}
+use Rattle.round_trip.proofs.Files.{pieces-cut}
 
 -- The bytes of what bytes were split into.
 bytes-again : (fs : List FieldForm) → Narrow fs → (len : ℕ) → total fs ≡ len * 8 → (t : List ℕ) → ((i : ℕ) → getD t i 0 < 256) → len ≤ length t

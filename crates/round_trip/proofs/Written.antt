@@ -34,10 +34,10 @@ use Rattle.writable.proofs.All.{all-at}
 use Rattle.frame_write.specs.declared.GridValues.{GridValues}
 use Rattle.frame_write.specs.Write.{headerToWrite, triangleCount, recordsBytes, fileBytes}
 use Rattle.frame_write.proofs.Asked.{Admitted}
-use Rattle.frame_write.proofs.Pieces.{length-pieces, length-header, length-record}
+use Rattle.frame_write.proofs.Pieces.{length-pieces, length-header, length-record, piece-at, pieces-same}
 use Rattle.round_trip.specs.RoundTrip.{gridValuesOf, recordsNumbers, Reads}
 use Rattle.round_trip.proofs.Joined.{joined-lt, split-join}
-use Rattle.round_trip.proofs.Files.{field-bytes, piece-at, pieces-same, pieces-cut}
+use Rattle.round_trip.proofs.Files.{field-bytes, pieces-cut}
 
 pub each-all : (q : ℕ → Question) (n : ℕ) → ((i : ℕ) → i < n → q i .holds ≡ true) → asked (ofEach q n) ≡ passed
 each-all q zero f = each-none q

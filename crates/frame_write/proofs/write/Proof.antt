@@ -36,12 +36,7 @@ returns-2 c =
     let k = told .before .before in
     let a = start k .args in
     let given = write-given (a .grid) (a .triangles .now) (a .out .now) (sym (asked-by k) ∙ ap saidVerdict (told .enum-told .given .1)) in
-    let is = k .before .version-1 .ensures in (
-      ap gives (put .put-file .ensures .0 ∙ ap (λ (l : Layout). recordStart l (triangleCount (a .triangles .now))) is) ∙ given .0,
-      put .put-file .ensures .1
-          ∙ ap (λ (l : Layout). fileBytes l (a .grid) (a .triangles .now) ++ drop (recordStart l (triangleCount (a .triangles .now))) (a .out .now)) is
-          ∙ given .1,
-    )
+    (ap gives (put .put-file .ensures .0) ∙ given .0, put .put-file .ensures .1 ∙ given .1)
 
 pub write-spec : {M : Type 1} → statement M
 write-spec =
@@ -53,8 +48,7 @@ write-spec =
     (λ c. search needs)
     (λ c κs.
     let told = c .before in
-    let k = told .before .before in
-    (rw (k .before .version-1 .ensures) version1-writable, sym (k .check .ensures) ∙ ap saidVerdict (told .enum-told .given .1)))
+    sym (asked-by (told .before .before)) ∙ ap saidVerdict (told .enum-told .given .1))
     returns
     (λ c. search needs)
     returns-2)
