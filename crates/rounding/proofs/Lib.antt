@@ -1,0 +1,7 @@
+pub mod Near
+pub mod Sums
+pub mod Cases
+pub mod Casts
+pub mod Infinite
+pub mod Meaning
+pub mod Wholes

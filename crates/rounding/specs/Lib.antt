@@ -1,0 +1,4 @@
+pub mod Rounding
+pub mod Widening
+-- inner
+pub mod Inner
