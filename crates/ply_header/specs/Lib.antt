@@ -1,0 +1,4 @@
+pub mod Text
+pub mod Header
+-- inner
+pub mod Inner
