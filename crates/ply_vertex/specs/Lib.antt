@@ -1,0 +1,3 @@
+pub mod Vertex
+-- inner
+pub mod Inner
