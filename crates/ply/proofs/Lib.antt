@@ -1,0 +1,4 @@
+pub mod Places
+pub mod Taken
+pub mod Faces
+pub mod Asking

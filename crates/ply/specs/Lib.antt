@@ -1,0 +1,3 @@
+pub mod Body
+-- inner
+pub mod Inner
