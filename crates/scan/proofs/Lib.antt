@@ -1,0 +1,3 @@
+pub mod Triangles
+pub mod Outcome
+pub mod Accepted

@@ -1,0 +1,3 @@
+pub mod Scan
+-- inner
+pub mod Inner
