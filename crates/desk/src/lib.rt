@@ -5,11 +5,13 @@ use refusal::Limit;
 use service::BarAnswer;
 use weights::Weights;
 ghost use mathlib.Core.Path.{_≡_};
+ghost use Prim.Native.Nat.{_<_, _^_};
 ghost use lib.ListN.{length};
 ghost use Rattle.pack.specs.Pack.{packedCount, unpackedCount};
 ghost use Rattle.refusal.specs.Limit.{gives};
 ghost use Rattle.service.specs.Bar.{bar, behind};
-ghost use Rattle.desk.specs.Calls.{listWriting, listBytes};
+ghost use Rattle.frame_write.specs.Write.{saidWritten};
+ghost use Rattle.desk.specs.Calls.{listWriting, listBytes, listScanning, listScanBytes};
 ghost use Rattle.desk.specs.Bar.{barRoomed, packedBar, unpackedBar, BarLeft};
 ghost use Rattle.desk.specs.Inner.{barList};
 
@@ -22,7 +24,26 @@ pub extern "C" fn desk_write(grid: &[i32], triangles: &[i32], out: &mut [u8]) ->
     if grid.len() != 7 {
         return pack::pack_limit(Limit::Unwritable);
     }
-    match frame_write::write(frame_write::grid_from(grid), triangles, out) {
+    pack_written(frame_write::write(frame_write::grid_from(grid), triangles, out))
+}
+
+// Makes the frame file of a grid's seven numbers and of a scanner's file, in the PLY format. The answer is as for the writer; a refusal
+// for a vertex or for a face has its number in the low 32 bits. No file below 2^32 bytes has a number that they cannot hold.
+#[no_mangle]
+pub extern "C" fn desk_scan(ply: &[u8], grid: &[i32], out: &mut [u8]) -> u64
+    ensures { λ r. ⌜ (r ≡ packedCount (listScanning (now (ply .entry)) (now (grid .entry)) (length (now (out .entry))))) × (length (now (ply .entry)) < 2 ^ 32 → unpackedCount r ≡ listScanning (now (ply .entry)) (now (grid .entry)) (length (now (out .entry)))) × (now (out .exit) ≡ listScanBytes (now (ply .entry)) (now (grid .entry)) (now (out .entry))) ⌝ }
+{
+    if grid.len() != 7 {
+        return pack::pack_limit(Limit::Unwritable);
+    }
+    pack_written(scan::scan(ply, frame_write::grid_from(grid), out))
+}
+
+// What a writing answers, packed.
+fn pack_written(written: Written) -> u64
+    ensures { λ r. ⌜ r ≡ packedCount (saidWritten written) ⌝ }
+{
+    match written {
         Written::Length(n) => pack::pack(0, 0, 0, n),
         Written::Refused(limit) => pack::pack_limit(limit),
     }
