@@ -9,6 +9,7 @@ mod lister;
 mod map;
 mod overlap;
 mod route;
+mod scan;
 mod write;
 
 pub use bar::{bar, weights_show};
@@ -16,6 +17,7 @@ pub use frame::{read, Header, Record};
 pub use lister::list;
 pub use map::fill;
 pub use route::{test_route, Route};
+pub use scan::scan;
 pub use write::{file_of, write_file};
 
 /// A refused call: the number of the first question answered with "no", and the place.

@@ -64,18 +64,24 @@ fn record_fits(record: &Record) -> bool {
     (0..=2).contains(&record.kind) && record.corners.iter().flatten().all(is_length)
 }
 
-/// Writes the file of grid values (cells, edge, origin) and of triangles, ten numbers each in record order, and answers its
-/// length.
-pub fn write_file(grid: &[i32], triangles: &[i32], out: &mut [u8]) -> Result<usize, Refusal> {
+/// Question 12, as far as it is about grid values: the header of a file with these and so many triangles.
+pub fn accept_grid(grid: &[i32], count: usize) -> Result<Header, Refusal> {
     question(12, 0, grid.len() == 7)?;
     let header = Header {
         version: 1,
         cells: three(grid),
         edge: i64::from(grid[3]),
         origin: three(&grid[4..]),
-        count: triangles.len() / 10,
+        count,
     };
     question(12, 0, grid_fits(&header))?;
+    Ok(header)
+}
+
+/// Writes the file of grid values (cells, edge, origin) and of triangles, ten numbers each in record order, and answers its
+/// length.
+pub fn write_file(grid: &[i32], triangles: &[i32], out: &mut [u8]) -> Result<usize, Refusal> {
+    let header = accept_grid(grid, triangles.len() / 10)?;
     question(12, 0, header.count <= 4095)?;
     question(12, 0, triangles.len().is_multiple_of(10))?;
     let records: Vec<Record> = triangles.chunks(10).map(record).collect();
