@@ -2,7 +2,8 @@
  * Frame files for the drawing office and the service laptop: the calls of libdesk.a, for C99 and C++.
  *
  * `rt staticlib desk` proves the library and writes target/staticlib/libdesk.a. docs/FORMAT.md has the formats whole: the
- * file's bits, and what to do about each limit. A program may use this header and library beside stall.h and libstall.a.
+ * file's bits, a scanner's PLY file, and what to do about each limit. A program may use this header and library beside
+ * stall.h and libstall.a.
  *
  * Common to all calls
  * -------------------
@@ -52,8 +53,9 @@ enum desk_tags {
 };
 
 /*
- * The limits. The first that the input breaks is the answer: desk_write asks for 12, then 11; desk_bar for 1 to 7 in this
- * order, then 16. The place is 0 but for one of them. Numbers 1 to 10 are those of stall.h; 13 to 15 are not used.
+ * The limits. The first that the input breaks is the answer: desk_write asks for 12, then 11; desk_scan for 12 to 15 in
+ * this order, then 11; desk_bar for 1 to 7 in this order, then 16. The place is 0 but for three of them. Numbers 1 to 10
+ * are those of stall.h.
  */
 enum desk_limits {
     DESK_LIMIT_SHORT_HEADER = 1,  /* the file has fewer than 12 bytes */
@@ -65,6 +67,9 @@ enum desk_limits {
     DESK_LIMIT_UNUSED_KIND = 7,   /* a record's kind is 3; place: the lowest such record, from 0 */
     DESK_LIMIT_SHORT_OUTPUT = 11, /* the output is shorter than the file */
     DESK_LIMIT_UNWRITABLE = 12,   /* a value outside its field, a far corner above 8,191, or a wrong list of triangles */
+    DESK_LIMIT_PLY_FORM = 13,     /* another header form, more than 4,095 faces, or a body of another length */
+    DESK_LIMIT_PLY_VERTEX = 14,   /* a vertex's number is no corner's; place: the lowest such vertex, from 0 */
+    DESK_LIMIT_PLY_FACE = 15,     /* a face has not three corners of the file; place: the lowest such face, from 0 */
     DESK_LIMIT_CELL_OUTSIDE = 16  /* the cell number is not in the grid */
 };
 
@@ -97,6 +102,46 @@ enum desk_triangle_numbers {
  */
 uint64_t desk_write(const int32_t *grid, uint64_t grid_len, const int32_t *triangles, uint64_t triangles_len, uint8_t *out,
                     uint64_t out_len);
+
+/*
+ * Writes the frame file of a frame that was measured with a scanner.
+ *
+ * `ply` is a PLY file in binary little-endian 1.0. Its header is these lines, each ended by one line feed, with one space
+ * between words and nothing else:
+ *
+ *   ply
+ *   format binary_little_endian 1.0
+ *   element vertex N
+ *   property T x
+ *   property T y
+ *   property T z
+ *   element face M
+ *   property list uchar int vertex_indices
+ *   end_header
+ *
+ * N and M are one or more decimal digits, and may begin with zeros. M is at most DESK_TRIANGLES_MOST. Each T is float (4
+ * bytes), double (8) or int (4, signed); the axes may differ. Comment lines may stand anywhere behind the first line: the
+ * word comment alone, or the word, a space and anything up to the line feed. Behind the header are N vertices, M faces and
+ * nothing else. A vertex is its x, y and z, in millimetres. A face is a byte that counts its corners, three, and for each
+ * of them the number of a vertex, from 0, as an int.
+ *
+ * Each number becomes the nearest whole millimetre, and a half goes to the even one: 0.5 to 0, 1.5 to 2, -2.5 to -2. A
+ * number of type float or int is widened to a double first, without loss. Every vertex must be from -8,192 to 8,191 then,
+ * also one that no face uses.
+ *
+ * `grid` has DESK_GRID_NUMBERS numbers, as for desk_write. Triangle k is face k, with its corners in the face's order, and
+ * its kind is DESK_KIND_FRAME. What is written to the start of `out` is what desk_write would write from the grid and these
+ * triangles: 12 + 16 x M bytes, at most DESK_FILE_MOST.
+ *
+ * Answer: DESK_DONE with the length of the file written; or a refusal by limit 12 where desk_write would refuse the grid,
+ * whatever its triangles; then by limit 13 where the header has another form, there are too many faces, or the body's
+ * length is not that of the vertices and of the faces by their own counts; then by limit 14 with the lowest vertex that has
+ * a number which is infinite, not a number, or outside -8,192 to 8,191 once rounded; then by limit 15 with the lowest face
+ * that has not three corners, or an index that is negative or not below N; then by limit 11 where `out` is shorter than the
+ * file. A vertex's number is said modulo 2^32, which matters for files of 51 GB and more.
+ */
+uint64_t desk_scan(const uint8_t *ply, uint64_t ply_len, const int32_t *grid, uint64_t grid_len, uint8_t *out,
+                   uint64_t out_len);
 
 /*
  * Says which triangle of a frame file, which bar of the steel, is behind a cell.
@@ -174,6 +219,12 @@ static inline const char *desk_limit_text(uint32_t limit)
         return "the output is too short for the file";
     case DESK_LIMIT_UNWRITABLE:
         return "a value, the grid's far corner or the list of triangles does not fit a file";
+    case DESK_LIMIT_PLY_FORM:
+        return "the PLY file has another header form, too many faces or a length that does not fit them";
+    case DESK_LIMIT_PLY_VERTEX:
+        return "a vertex of the PLY file is infinite, not a number, or outside -8,192 to 8,191 mm once rounded";
+    case DESK_LIMIT_PLY_FACE:
+        return "a face of the PLY file has not three corners, or an index that no vertex has";
     case DESK_LIMIT_CELL_OUTSIDE:
         return "the cell number is not in the grid";
     default:

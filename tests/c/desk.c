@@ -453,7 +453,7 @@ static void nulls(void)
 /* Each limit has a text of its own, and every other number the same one. */
 static void texts(void)
 {
-    static const uint32_t limits[] = {1, 2, 3, 4, 5, 6, 7, 11, 12, 16}, others[] = {8, 9, 10, 13, 14, 15, 17, UINT32_MAX};
+    static const uint32_t limits[] = {1, 2, 3, 4, 5, 6, 7, 11, 12, 13, 14, 15, 16}, others[] = {8, 9, 10, 17, UINT32_MAX};
     const size_t count = sizeof limits / sizeof limits[0];
     const char *other = desk_limit_text(0);
     CHECK("texts", strlen(other) > 0);

@@ -1,9 +1,10 @@
-//! The verified library for the drawing office and the service laptop, in safe Rust: frame files are written, and the bar
-//! behind a filled cell is shown.
+//! The verified library for the drawing office and the service laptop, in safe Rust: frame files are written, from numbers
+//! and from the PLY files of scanners, and the bar behind a filled cell is shown.
 //!
 //! The work is done by `libdesk.a`, which is proved; this crate only passes slices on and takes answers apart. It needs no
-//! standard library and allocates nothing. The frame file, and what to do about each limit, are in `docs/FORMAT.md` of the
-//! repository. The crate `stall` reads the files, and has the same types of kinds, limits and refusals.
+//! standard library and allocates nothing. The frame file, the PLY files that are read, and what to do about each limit, are
+//! in `docs/FORMAT.md` of the repository. The crate `stall` reads frame files, and has the same types of kinds, limits and
+//! refusals.
 //!
 //! ```
 //! # fn main() -> Result<(), desk::Refusal> {
@@ -41,9 +42,11 @@
 
 mod bar;
 pub mod library;
+mod scanning;
 mod writing;
 
 pub use bar::{Bar, bar};
+pub use scanning::{scan, scan_numbers};
 pub use shared::{Kind, Limit, Refusal};
 pub use writing::{Grid, Triangle, file_len, write, write_numbers};
 
@@ -51,7 +54,7 @@ pub use writing::{Grid, Triangle, file_len, write, write_numbers};
 pub const TRIANGLES_MOST: usize = 4_095;
 /// The longest file, in bytes: [`TRIANGLES_MOST`] triangles.
 pub const FILE_MOST: usize = file_len(TRIANGLES_MOST);
-/// How many numbers [`write_numbers`] takes for the grid.
+/// How many numbers [`write_numbers`] and [`scan_numbers`] take for the grid.
 pub const GRID_NUMBERS: usize = 7;
 /// How many numbers [`write_numbers`] takes for a triangle.
 pub const TRIANGLE_NUMBERS: usize = 10;

@@ -12,6 +12,16 @@ unsafe extern "C" {
         out_len: u64,
     ) -> u64;
 
+    /// Writes the frame file of a scanner's PLY file.
+    pub fn desk_scan(
+        ply: *const u8,
+        ply_len: u64,
+        grid: *const i32,
+        grid_len: u64,
+        out: *mut u8,
+        out_len: u64,
+    ) -> u64;
+
     /// Says which triangle of a frame file is behind a cell.
     pub fn desk_bar(
         file: *const u8,

@@ -17,7 +17,7 @@ pub struct Grid {
 }
 
 impl Grid {
-    /// The seven numbers of the grid, as [`write_numbers`] takes them.
+    /// The seven numbers of the grid, as [`write_numbers`] and [`scan_numbers`](crate::scan_numbers) take them.
     pub const fn numbers(&self) -> [i32; GRID_NUMBERS] {
         let ([nx, ny, nz], [x, y, z]) = (self.cells, self.origin);
         [nx, ny, nz, self.edge, x, y, z]

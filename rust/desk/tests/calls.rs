@@ -138,6 +138,6 @@ fn texts_of_limits() {
         .iter()
         .filter(|limit| !(8..=10).contains(&limit.number()));
     let ours: Vec<String> = ours.map(Limit::to_string).collect();
-    assert_eq!(texts.len(), 11);
-    assert_eq!(texts[..10], ours);
+    assert_eq!(texts.len(), 14);
+    assert_eq!(texts[..13], ours);
 }

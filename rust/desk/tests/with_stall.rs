@@ -87,6 +87,26 @@ fn bars_behind_filled_cells() {
     assert_eq!(desk::bar(&file, 8).unwrap_err().limit, Limit::CellOutside);
 }
 
+/// What is scanned reads back as the rounded vertices, in the faces' order, and fills the cells of row g.
+#[test]
+fn reads_what_is_scanned() {
+    let header = "ply\nformat binary_little_endian 1.0\nelement vertex 3\nproperty float x\nproperty float y\n\
+                  property float z\nelement face 1\nproperty list uchar int vertex_indices\nend_header\n";
+    let vertices = [[1.25, 19.5, 5.0f32], [20.5, 20.4, 4.75], [19.6, 0.75, 5.1]];
+    let mut ply = header.as_bytes().to_vec();
+    ply.extend(vertices.as_flattened().iter().flat_map(|v| v.to_le_bytes()));
+    ply.push(3);
+    ply.extend([2, 0, 1i32].iter().flat_map(|index| index.to_le_bytes()));
+    let (mut file, mut map) = ([0; 28], [0]);
+    assert_eq!(desk::scan(&ply, &GRID, &mut file), Ok(28));
+    let record = stall::read(&file, 0).unwrap().record;
+    let corners = [[20, 1, 5], [1, 20, 5], [20, 20, 5]];
+    let kind = Kind::Frame;
+    assert_eq!(record.map(triangle), Some(Triangle { kind, corners }));
+    assert_eq!(stall::fill(&file, &mut map), Ok(3));
+    assert_eq!(map, [0x70]);
+}
+
 /// The library writes the example that the documents decode byte by byte.
 #[test]
 fn writes_the_example() {

@@ -4,9 +4,9 @@ use core::error::Error;
 use core::fmt::{self, Display, Formatter};
 
 /// A limit that an input breaks, named by what is wrong with it. Limits 1 to 10 are those of `stall`, which asks for them in
-/// this order. Limits 11 and 12 are those of `desk`'s call `write`, which asks for 12 first. Its call `bar` asks for 1 to 7 in
-/// this order, and for 16 last. No limit has the numbers 13 to 15. The first that is broken refuses the call.
-/// `docs/FORMAT.md` says what to do about each.
+/// this order. Of `desk`'s calls, `write` asks for 12 and then 11; `scan` for 12 to 15 in this order, and for 11 last; `bar`
+/// for 1 to 7 in this order, and for 16 last. The first that is broken refuses the call. `docs/FORMAT.md` says what to do
+/// about each.
 ///
 /// ```
 /// use shared::Limit;
@@ -14,7 +14,7 @@ use core::fmt::{self, Display, Formatter};
 /// assert_eq!(limit, Limit::UnusedKind);
 /// assert_eq!(limit.number(), 7);
 /// assert_eq!(limit.to_string(), "a record has the unused kind 3");
-/// assert_eq!(Limit::from_number(13), None);
+/// assert_eq!(Limit::from_number(17), None);
 /// ```
 #[derive(Clone, Copy, Debug, PartialEq, Eq, PartialOrd, Ord, Hash)]
 #[repr(u8)]
@@ -44,13 +44,22 @@ pub enum Limit {
     /// 12: a value is outside its field, on some axis the grid reaches beyond 8,191, or the list has more than 4,095
     /// triangles or a part of one.
     Unwritable = 12,
+    /// 13: the PLY file has another header form, more than 4,095 faces, or a body whose length is not that of its vertices and
+    /// faces.
+    PlyForm = 13,
+    /// 14: a vertex of the PLY file has a number that is infinite, not a number, or outside −8,192 to 8,191 once rounded. The
+    /// place is the lowest such vertex, from 0, modulo 2^32.
+    PlyVertex = 14,
+    /// 15: a face of the PLY file has not three corners, or an index that no vertex has. The place is the lowest such face,
+    /// from 0.
+    PlyFace = 15,
     /// 16: the cell number is not in the grid.
     CellOutside = 16,
 }
 
 impl Limit {
     /// All limits, by their numbers.
-    pub const ALL: [Limit; 13] = [
+    pub const ALL: [Limit; 16] = [
         Limit::ShortHeader,
         Limit::Version,
         Limit::ZeroEdge,
@@ -63,10 +72,13 @@ impl Limit {
         Limit::PointOutside,
         Limit::ShortOutput,
         Limit::Unwritable,
+        Limit::PlyForm,
+        Limit::PlyVertex,
+        Limit::PlyFace,
         Limit::CellOutside,
     ];
 
-    /// The limit's number: 1 to 12, or 16.
+    /// The limit's number: 1 to 16.
     pub const fn number(self) -> u8 {
         self as u8
     }
@@ -74,8 +86,7 @@ impl Limit {
     /// The limit with a number; none where no limit has it.
     pub const fn from_number(number: u8) -> Option<Limit> {
         match number {
-            1..=12 => Some(Limit::ALL[number as usize - 1]),
-            16 => Some(Limit::CellOutside),
+            1..=16 => Some(Limit::ALL[number as usize - 1]),
             _ => None,
         }
     }
@@ -96,6 +107,15 @@ impl Limit {
             Limit::ShortOutput => "the output is too short for the file",
             Limit::Unwritable => {
                 "a value, the grid's far corner or the list of triangles does not fit a file"
+            }
+            Limit::PlyForm => {
+                "the PLY file has another header form, too many faces or a length that does not fit them"
+            }
+            Limit::PlyVertex => {
+                "a vertex of the PLY file is infinite, not a number, or outside -8,192 to 8,191 mm once rounded"
+            }
+            Limit::PlyFace => {
+                "a face of the PLY file has not three corners, or an index that no vertex has"
             }
             Limit::CellOutside => "the cell number is not in the grid",
         }
@@ -119,7 +139,8 @@ impl Display for Limit {
 pub struct Refusal {
     /// The limit.
     pub limit: Limit,
-    /// The record of [`Limit::UnusedKind`], the point of [`Limit::PointOutside`], each from 0; else 0.
+    /// The record of [`Limit::UnusedKind`], the point of [`Limit::PointOutside`], the vertex of [`Limit::PlyVertex`], the face
+    /// of [`Limit::PlyFace`], each from 0; else 0.
     pub place: usize,
 }
 
@@ -130,6 +151,8 @@ impl Display for Refusal {
         match limit {
             Limit::UnusedKind => write!(f, " (record {place})"),
             Limit::PointOutside => write!(f, " (point {place})"),
+            Limit::PlyVertex => write!(f, " (vertex {place})"),
+            Limit::PlyFace => write!(f, " (face {place})"),
             _ => Ok(()),
         }
     }
