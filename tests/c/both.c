@@ -1,12 +1,13 @@
 /*
- * Tests both libraries in one program, through both headers: what libdesk.a writes, libstall.a reads, fills and tests routes
- * on, and libdesk.a shows the bars behind what is filled.
+ * Tests both libraries in one program, through both headers: what libdesk.a writes, from numbers and from a scanner's file,
+ * libstall.a reads, fills and tests routes on, and libdesk.a shows the bars behind what is filled.
  * Prints a line with the totals; the exit status is 1 where a check failed.
  */
 #include "desk.h"
 #include "stall.h"
 
 #include "check.h"
+#include "ply.h"
 
 #include <string.h>
 
@@ -58,7 +59,34 @@ static void bars(const uint8_t *file, uint64_t file_len, uint8_t map)
     }
 }
 
-/* Writes, reads, fills, shows bars, tests a route. */
+/* What is scanned reads back as the rounded vertices, in the faces' order, and fills the cells of row g. */
+static void scans(void)
+{
+    static const char *const types[3] = {"float", "double", "int"};
+    static const int32_t corners[9] = {20, 1, 5, 1, 20, 5, 20, 20, 5};
+    static struct ply ply;
+    uint8_t file[28], map[1];
+    int32_t numbers[STALL_READ_NUMBERS];
+    ply_header(&ply, "3", types, "1");
+    for (int i = 0; i < 3; i++) {
+        /* each is a quarter beside a corner of row g, or a half beside an even number */
+        ply_float(&ply, i == 0 ? 1.25f : 20.5f);
+        ply_double(&ply, i == 2 ? 0.75 : 19.5);
+        ply_int(&ply, 5);
+    }
+    ply_face(&ply, 2, 0, 1);
+    uint64_t answer = desk_scan(ply.bytes, ply.length, GRID, DESK_GRID_NUMBERS, file, sizeof file);
+    CHECK("scans", desk_tag(answer) == DESK_DONE && desk_length(answer) == desk_file_length(1));
+    CHECK("scans", stall_read(file, sizeof file, 0, numbers, STALL_READ_NUMBERS) == STALL_READ_NUMBERS);
+    CHECK("scans", numbers[STALL_AT_COUNT] == 1 && numbers[STALL_AT_KIND] == STALL_KIND_FRAME);
+    for (unsigned i = 0; i < 9; i++) {
+        CHECK("scans", numbers[STALL_AT_CORNERS + i] == corners[i]);
+    }
+    CHECK("scans", stall_count(stall_fill(file, sizeof file, map, 1)) == 3 && map[0] == 0x70);
+    bars(file, sizeof file, map[0]);
+}
+
+/* Writes, reads, fills, shows bars, tests a route, scans. */
 int main(void)
 {
     static const int16_t free_low[6] = {0, 0, 0, 9, 9, 0};
@@ -70,5 +98,6 @@ int main(void)
     CHECK("fills", stall_count(stall_fill(file, desk_length(answer), map, 1)) == 3 && map[0] == 0x70);
     bars(file, desk_length(answer), map[0]);
     CHECK("routes", stall_tag(stall_route(file, desk_length(answer), map, 1, free_low, 6)) == STALL_FREE);
+    scans();
     return totals();
 }

@@ -1,13 +1,14 @@
 /*
  * Tests libdesk.a from C through include/desk.h: the worked file, every field at its borders, lists and outputs of every
- * length that matters, bars behind cells, every limit, null pointers, bytes and numbers behind what is written, and the
- * header's own functions.
+ * length that matters, scanner files, bars behind cells, every limit, null pointers, bytes and numbers behind what is
+ * written, and the header's own functions.
  * Prints a line a group and a line with the totals; the exit status is 1 where a check failed.
  */
 #include "desk.h" /* first, so that it is seen to need nothing before it */
 
 #include "check.h"
 #include "frame.h"
+#include "ply.h"
 
 /* The numbers of a grid and of the longest list, with some more of each, and room for every file. */
 struct given {
@@ -194,6 +195,618 @@ static void outputs(void)
         }
     }
     puts("c: limit 11");
+}
+
+/* ---- scanner files */
+
+static struct ply ply;
+static uint8_t same[DESK_FILE_MOST + 16];
+
+static const char *const INTS[3] = {"int", "int", "int"};
+/* The numbers of the worked vertices: three of row g and a far one. */
+static const int32_t VERTICES[4][3] = {{1, 20, 5}, {20, 20, 5}, {20, 1, 5}, {-8192, 8191, 0}};
+
+/* The worked vertices, and the faces of row g and of the far one. */
+static void worked_body(void)
+{
+    for (int i = 0; i < 4; i++) {
+        for (int axis = 0; axis < 3; axis++) {
+            ply_int(&ply, VERTICES[i][axis]);
+        }
+    }
+    ply_face(&ply, 0, 1, 2);
+    ply_face(&ply, 3, 0, 3);
+}
+
+/* The worked scanner file: whole numbers. */
+static void worked_ply(void)
+{
+    ply_header(&ply, "4", INTS, "2");
+    worked_body();
+}
+
+/* A scanner file of so many vertices (0, 0, 0), with no face behind them yet. */
+static void flat_ply(const char *vertices, unsigned count, const char *faces)
+{
+    ply_header(&ply, vertices, INTS, faces);
+    for (unsigned i = 0; i < 3 * count; i++) {
+        ply_int(&ply, 0);
+    }
+}
+
+/* The answer to the scanner file with this room, and whether the bytes behind what is written are as they were. */
+static uint64_t scan_in(uint64_t room, int *kept)
+{
+    const size_t lent = room + 16 < sizeof out ? (size_t)room + 16 : sizeof out;
+    memset(out, 0xaa, lent);
+    uint64_t answer = desk_scan(ply.bytes, ply.length, given.grid, given.grid_len, out, room);
+    size_t end = desk_tag(answer) == DESK_DONE ? desk_length(answer) : 0;
+    *kept = 1;
+    for (size_t i = end; i < lent; i++) {
+        *kept &= out[i] == 0xaa;
+    }
+    return answer;
+}
+
+/* Whether the scanner file gives what desk_write writes from what is given, into this room. */
+static int scans(uint64_t room)
+{
+    int kept;
+    uint64_t answer = scan_in(room, &kept);
+    uint64_t wanted = desk_write(given.grid, given.grid_len, given.triangles, given.triangles_len, same, sizeof same);
+    return kept && answer == wanted && desk_tag(wanted) == DESK_DONE && memcmp(out, same, (size_t)desk_length(wanted)) == 0;
+}
+
+/* Whether it is refused by this limit with this place, and nothing is written. */
+static int refuses_scan(uint64_t room, unsigned number, uint32_t place)
+{
+    int kept;
+    uint64_t answer = scan_in(room, &kept);
+    return kept && answer == ((uint64_t)DESK_REFUSED << 56 | (uint64_t)number << 48 | place);
+}
+
+/* The worked grid, and the triangles of the worked scanner file. */
+static void worked_scan(void)
+{
+    static const int corners[2][3] = {{0, 1, 2}, {3, 0, 3}};
+    worked(2);
+    for (int i = 0; i < 2; i++) {
+        int32_t *triangle = given.triangles + DESK_TRIANGLE_NUMBERS * i;
+        triangle[DESK_AT_KIND] = DESK_KIND_FRAME;
+        for (int j = 0; j < 3; j++) {
+            memcpy(triangle + DESK_AT_CORNERS + 3 * j, VERTICES[corners[i][j]], sizeof VERTICES[0]);
+        }
+    }
+}
+
+/* The worked scanner file, byte for byte; no face, no vertex. */
+static void scan_bytes(void)
+{
+    static const uint8_t printed[44] = {0x10, 0x41, 0x04, 0x28, 0x00, 0x00, 0x00, 0x00, 0x00, 0x00, 0x20,
+                                        0x00, 0x00, 0x01, 0x00, 0x50, 0x00, 0x50, 0x05, 0x00, 0x14, 0x00,
+                                        0x14, 0x01, 0x40, 0x00, 0x40, 0x05, 0x20, 0x00, 0x7f, 0xfc, 0x00,
+                                        0x00, 0x00, 0x40, 0x14, 0x00, 0x16, 0x00, 0x07, 0xff, 0xc0, 0x00};
+    int kept;
+    worked_scan();
+    worked_ply();
+    CHECK("scan bytes", scan_in(44, &kept) == 44 && kept && memcmp(out, printed, 44) == 0);
+    CHECK("scan bytes", scans(44) && scans(sizeof out));
+    worked(0);
+    flat_ply("0", 0, "0");
+    CHECK("scan bytes", scans(12));
+    flat_ply("1", 1, "0");
+    CHECK("scan bytes", scans(12));
+    puts("c: scanned bytes");
+}
+
+/* Every choice of types: on each axis its own numbers, of two vertices. */
+static void scan_types(void)
+{
+    static const char *const names[3] = {"float", "double", "int"};
+    static const double numbers[2][3] = {{-8192.0, 8190.75, 1.5}, {17.25, -0.5, -4096.5}};
+    static const int32_t rounded[2][3] = {{-8192, 8191, 2}, {17, 0, -4096}};
+    worked(1);
+    for (int choice = 0; choice < 27; choice++) {
+        const int types[3] = {choice % 3, choice / 3 % 3, choice / 9};
+        const char *const chosen[3] = {names[types[0]], names[types[1]], names[types[2]]};
+        ply_header(&ply, "2", chosen, "1");
+        for (int i = 0; i < 2; i++) {
+            for (int axis = 0; axis < 3; axis++) {
+                if (types[axis] == 0) {
+                    ply_float(&ply, (float)numbers[i][axis]);
+                } else if (types[axis] == 1) {
+                    ply_double(&ply, numbers[i][axis]);
+                } else {
+                    ply_int(&ply, rounded[i][axis]);
+                }
+            }
+        }
+        ply_face(&ply, 1, 0, 1);
+        for (int i = 0; i < 9; i++) {
+            given.triangles[DESK_AT_CORNERS + i] = rounded[i / 3 % 2 ? 0 : 1][i % 3];
+        }
+        CHECK("scan types", scans(28));
+        ply.length--;
+        CHECK("scan types", refuses_scan(28, DESK_LIMIT_PLY_FORM, 0));
+    }
+    puts("c: types of numbers");
+}
+
+/* Whether a vertex with this number on each axis in turn, else 7, is written with it rounded; or is refused by limit 14. */
+static int rounds(const char *type, unsigned bytes, uint64_t bits, int good, int32_t rounded)
+{
+    int all = 1;
+    worked(1);
+    for (int axis = 0; axis < 3; axis++) {
+        const char *const types[3] = {axis == 0 ? type : "int", axis == 1 ? type : "int", axis == 2 ? type : "int"};
+        ply_header(&ply, "2", types, "1");
+        for (int i = 0; i < 6; i++) {
+            if (i % 3 != axis) {
+                ply_int(&ply, 7);
+            } else {
+                ply_bits(&ply, bytes, i < 3 ? 0 : bits);
+            }
+        }
+        ply_face(&ply, 1, 1, 1);
+        for (int i = 0; i < 9; i++) {
+            given.triangles[DESK_AT_CORNERS + i] = i % 3 == axis ? rounded : 7;
+        }
+        all &= good ? scans(28) : refuses_scan(28, DESK_LIMIT_PLY_VERTEX, 1);
+    }
+    return all;
+}
+
+static int double_bits(uint64_t bits, int good, int32_t rounded)
+{
+    return rounds("double", 8, bits, good, rounded);
+}
+
+static int float_bits(uint32_t bits, int good, int32_t rounded)
+{
+    return rounds("float", 4, bits, good, rounded);
+}
+
+/* A number of type double, and of both signs. */
+static int as_double(double number, int good, int32_t rounded)
+{
+    uint64_t bits;
+    memcpy(&bits, &number, sizeof bits);
+    return double_bits(bits, good, rounded) && double_bits(bits ^ UINT64_C(1) << 63, good, -rounded);
+}
+
+/* The same of type float. */
+static int as_float(float number, int good, int32_t rounded)
+{
+    uint32_t bits;
+    memcpy(&bits, &number, sizeof bits);
+    return float_bits(bits, good, rounded) && float_bits(bits ^ UINT32_C(1) << 31, good, -rounded);
+}
+
+/* The nearest whole number, and the even one of a half. */
+static void scan_rounding(void)
+{
+    static const struct {
+        double number;
+        int32_t rounded;
+    } rows[] = {
+        {0.0, 0},       {0.25, 0},      {0.5, 0},       {0.75, 1},       {1.0, 1},       {1.5, 2},
+        {2.5, 2},       {3.5, 4},       {4.5, 4},       {99.5, 100},     {100.5, 100},   {4095.5, 4096},
+        {4096.5, 4096}, {8189.5, 8190}, {8190.5, 8190}, {8190.75, 8191}, {8191.0, 8191}, {8191.25, 8191},
+    };
+    for (size_t i = 0; i < sizeof rows / sizeof rows[0]; i++) {
+        CHECK("rounding", as_double(rows[i].number, 1, rows[i].rounded));
+        CHECK("rounding", as_float((float)rows[i].number, 1, rows[i].rounded));
+    }
+    /* next to a half: one unit in the last place */
+    for (int32_t whole = 0; whole < 8191; whole += whole < 20 ? 1 : 389) {
+        const double half = whole + 0.5;
+        const float short_half = (float)half;
+        uint64_t bits;
+        uint32_t short_bits;
+        memcpy(&bits, &half, sizeof bits);
+        memcpy(&short_bits, &short_half, sizeof short_bits);
+        CHECK("halves", double_bits(bits, 1, whole + whole % 2) && float_bits(short_bits, 1, whole + whole % 2));
+        CHECK("halves", double_bits(bits - 1, 1, whole) && double_bits(bits + 1, 1, whole + 1));
+        CHECK("halves", float_bits(short_bits - 1, 1, whole) && float_bits(short_bits + 1, 1, whole + 1));
+    }
+    /* the ends: -8,192.5 goes to -8,192, and 8,191.5 to 8,192 */
+    CHECK("ends", double_bits(UINT64_C(0x40bfff7fffffffff), 1, 8191) && double_bits(UINT64_C(0x40bfff8000000000), 0, 0));
+    CHECK("ends", double_bits(UINT64_C(0xc0c0004000000000), 1, -8192) && double_bits(UINT64_C(0xc0c0004000000001), 0, 0));
+    CHECK("ends", float_bits(UINT32_C(0x45fffbff), 1, 8191) && float_bits(UINT32_C(0x45fffc00), 0, 0));
+    CHECK("ends", float_bits(UINT32_C(0xc6000200), 1, -8192) && float_bits(UINT32_C(0xc6000201), 0, 0));
+    CHECK("ends", rounds("int", 4, 8191, 1, 8191) && rounds("int", 4, 8192, 0, 0));
+    CHECK("ends", rounds("int", 4, UINT32_C(0xffffe000), 1, -8192) && rounds("int", 4, UINT32_C(0xffffdfff), 0, 0));
+    CHECK("ends", rounds("int", 4, UINT32_C(0x80000000), 0, 0) && rounds("int", 4, UINT32_C(0x7fffffff), 0, 0));
+    CHECK("ends", rounds("int", 4, UINT32_C(0xffffffff), 1, -1));
+    CHECK("ends", as_double(8193.0, 0, 0) && as_double(65536.0, 0, 0) && as_double(4294967296.0, 0, 0));
+    CHECK("ends", as_double(9007199254740992.0, 0, 0) && as_double(18446744073709551616.0, 0, 0) && as_double(1e300, 0, 0));
+    CHECK("ends", as_float(8193.0f, 0, 0) && as_float(4294967296.0f, 0, 0) && as_float(1e38f, 0, 0));
+    puts("c: rounding");
+}
+
+/* What is tiny is 0; what is infinite or not a number is refused, with every sign. */
+static void scan_bits(void)
+{
+    static const uint64_t tiny[] = {0, 1, UINT64_C(0xfffffffffffff), UINT64_C(0x10000000000000),
+                                    UINT64_C(0x3fdfffffffffffff)};
+    static const uint32_t short_tiny[] = {0, 1, UINT32_C(0x7fffff), UINT32_C(0x800000), UINT32_C(0x3effffff)};
+    /* infinity, then signalling and quiet ones that are not a number */
+    static const uint64_t none[] = {0, 1, UINT64_C(0x7ffffffffffff), UINT64_C(0x8000000000000), UINT64_C(0xfffffffffffff)};
+    static const uint32_t short_none[] = {0, 1, UINT32_C(0x3fffff), UINT32_C(0x400000), UINT32_C(0x7fffff)};
+    for (int i = 0; i < 5; i++) {
+        for (uint64_t sign = 0; sign < 2; sign++) {
+            const uint64_t exponent = UINT64_C(0x7ff) << 52;
+            CHECK("tiny", double_bits(sign << 63 | tiny[i], 1, 0));
+            CHECK("tiny", float_bits((uint32_t)sign << 31 | short_tiny[i], 1, 0));
+            CHECK("no number", double_bits(sign << 63 | exponent | none[i], 0, 0));
+            CHECK("no number", float_bits((uint32_t)sign << 31 | UINT32_C(0xff) << 23 | short_none[i], 0, 0));
+        }
+    }
+    puts("c: tiny numbers, and none");
+}
+
+/* Other forms of each line of the header. */
+static void scan_lines(void)
+{
+    static const struct {
+        int at;
+        const char *other;
+    } rows[] = {
+        {0, ""},
+        {0, "PLY\n"},
+        {0, "ply \n"},
+        {0, "ply\r\n"},
+        {0, "\nply\n"},
+        {0, " ply\n"},
+        {0, "comment\nply\n"},
+        {0, "ply\nply\n"},
+        {0, "ply\n\n"},
+        {0, "ply\nobj_info a\n"},
+        {0, "ply\ncomments\n"},
+        {0, "ply\ncomment\ta\n"},
+        {0, "ply\ncomment\r\n"},
+        {0, "ply\n comment\n"},
+        {0, "ply\nComment a\n"},
+        {0, "ply\ncommen\n"},
+        {1, ""},
+        {1, "format ascii 1.0\n"},
+        {1, "format binary_big_endian 1.0\n"},
+        {1, "format binary_little_endian 1.1\n"},
+        {1, "format binary_little_endian 1.00\n"},
+        {1, "format binary_little_endian  1.0\n"},
+        {1, "format binary_little_endian\t1.0\n"},
+        {1, "format binary_little_endian 1.0 \n"},
+        {1, "format binary_little_endian 1.0\r\n"},
+        {2, ""},
+        {2, "element vertex\n"},
+        {2, "element vertex \n"},
+        {2, "element vertex 4 \n"},
+        {2, "element vertex +4\n"},
+        {2, "element vertex -4\n"},
+        {2, "element vertex 4.0\n"},
+        {2, "element vertex 0x4\n"},
+        {2, "element vertex  4\n"},
+        {2, "element vertex 4\r\n"},
+        {2, "element vertex four\n"},
+        {2, "element vertices 4\n"},
+        {2, "element Vertex 4\n"},
+        {3, ""},
+        {3, "property float32 x\n"},
+        {3, "property int32 x\n"},
+        {3, "property uint x\n"},
+        {3, "property short x\n"},
+        {3, "property Int x\n"},
+        {3, "property  x\n"},
+        {3, "property x\n"},
+        {3, "property int X\n"},
+        {3, "property int x \n"},
+        {3, "property int  x\n"},
+        {3, "property int y\n"},
+        {3, "property uchar red\nproperty int x\n"},
+        {4, ""},
+        {4, "property int x\n"},
+        {4, "property int nx\n"},
+        {5, ""},
+        {5, "property int z\nproperty float nx\n"},
+        {6, ""},
+        {6, "element face\n"},
+        {6, "element face 2 \n"},
+        {6, "element face -2\n"},
+        {6, "element faces 2\n"},
+        {6, "element edge 0\nelement face 2\n"},
+        {7, ""},
+        {7, "property list uchar int vertex_index\n"},
+        {7, "property list uchar uint vertex_indices\n"},
+        {7, "property list uint8 int32 vertex_indices\n"},
+        {7, "property list int int vertex_indices\n"},
+        {7, "property list uchar int vertex_indices \n"},
+        {7, "property list uchar int vertex_indices\nproperty uchar red\n"},
+        {8, ""},
+        {8, "end_header\r\n"},
+        {8, "end_header \n"},
+        {8, "end_header"},
+        {8, "\nend_header\n"},
+        {8, "element edge 0\nend_header\n"},
+    };
+    worked_scan();
+    for (size_t i = 0; i < sizeof rows / sizeof rows[0]; i++) {
+        ply_header_with(&ply, "4", INTS, "2", rows[i].at, rows[i].other);
+        worked_body();
+        check(refuses_scan(44, DESK_LIMIT_PLY_FORM, 0), "lines", rows[i].other, rows[i].at);
+    }
+    /* with no face and no vertex there is nothing behind the last line feed */
+    flat_ply("0", 0, "0");
+    ply.length--;
+    CHECK("lines", refuses_scan(12, DESK_LIMIT_PLY_FORM, 0));
+    puts("c: lines of a header");
+}
+
+/* Every cut of a file, every byte more, and every other byte at every place of the header. */
+static void scan_damage(void)
+{
+    worked_scan();
+    ply_header(&ply, "4", INTS, "2");
+    const size_t body = ply.length;
+    worked_ply();
+    const size_t whole = ply.length;
+    for (ply.length = 0; ply.length < whole; ply.length++) {
+        CHECK("damage", refuses_scan(44, DESK_LIMIT_PLY_FORM, 0));
+    }
+    CHECK("damage", scans(44));
+    for (int i = 0; i < 14; i++) {
+        ply_bits(&ply, 1, 0);
+        CHECK("damage", refuses_scan(44, DESK_LIMIT_PLY_FORM, 0));
+    }
+    ply.length = whole;
+    for (size_t at = 0; at < body; at++) {
+        const uint8_t before = ply.bytes[at];
+        for (int byte = 0; byte < 256; byte++) {
+            /* a digit for a digit, behind the format's line, is another count, which says nothing of the form */
+            const int digits = at > 36 && before >= '0' && before <= '9' && byte >= '0' && byte <= '9';
+            int kept;
+            ply.bytes[at] = (uint8_t)byte;
+            if (byte == before) {
+                CHECK("damage", scans(44));
+            } else if (digits) {
+                CHECK("damage", desk_tag(scan_in(44, &kept)) == DESK_REFUSED && kept);
+            } else {
+                CHECK("damage", refuses_scan(44, DESK_LIMIT_PLY_FORM, 0));
+            }
+        }
+        ply.bytes[at] = before;
+    }
+    puts("c: damaged scanner files");
+}
+
+/* Comments behind each line of the header but the last. */
+static void scan_comments(void)
+{
+    static const char *const comments[] = {
+        "comment\n",
+        "comment \n",
+        "comment a\n",
+        "comment  two spaces, a tab \t and a carriage return \r\n",
+        "comment end_header\n",
+        "comment comment\n",
+        "comment element vertex 7\n",
+        "comment \x01\x7f\x80\xff\n",
+        "comment\ncomment\ncomment a\ncomment\n",
+    };
+    worked_scan();
+    for (size_t i = 0; i < sizeof comments / sizeof comments[0]; i++) {
+        for (int line = 0; line < PLY_LINES; line++) {
+            worked_ply();
+            const struct ply plain = ply;
+            size_t at = 0;
+            for (int feeds = 0; feeds <= line; at++) {
+                feeds += plain.bytes[at] == '\n';
+            }
+            ply.length = at;
+            ply_text(&ply, comments[i]);
+            memcpy(ply.bytes + ply.length, plain.bytes + at, plain.length - at);
+            ply.length += plain.length - at;
+            /* behind the last line it is no comment, but a part of the body */
+            const int holds = line < PLY_LINES - 1 ? scans(44) : refuses_scan(44, DESK_LIMIT_PLY_FORM, 0);
+            check(holds, "comments", comments[i], line);
+        }
+    }
+    /* a comment may have any byte but the line feed */
+    ply_header_with(&ply, "4", INTS, "2", 0, "ply\ncomment ?\n");
+    worked_body();
+    for (int byte = 0; byte < 256; byte++) {
+        ply.bytes[12] = (uint8_t)byte;
+        CHECK("comments", byte == '\n' ? refuses_scan(44, DESK_LIMIT_PLY_FORM, 0) : scans(44));
+    }
+    /* a long one, and many */
+    static char many[50000] = "ply\ncomment ";
+    memset(many + 12, 'a', 5000);
+    for (size_t at = 5012; at < 45000; at += 8) {
+        memcpy(many + at, "\ncomment", 9);
+    }
+    strcat(many, "\n");
+    ply_header_with(&ply, "4", INTS, "2", 0, many);
+    worked_body();
+    CHECK("comments", scans(44));
+    puts("c: comments");
+}
+
+/* Counts with zeros in front, and counts that no file has. */
+static void scan_counts(void)
+{
+    static const char *const four[] = {"4", "04", "0000000000000000000000000000000000000004"};
+    static const char *const two[] = {"2", "02", "0000000000000000000000000000000000000002"};
+    /* some are 4 or 2 modulo 2^32, 2^64 or 2^128, or make the length of 4 vertices modulo these */
+    static const char *const others[] = {
+        "0",
+        "40",
+        "4098",
+        "1073741828",
+        "4294967298",
+        "4294967300",
+        "4611686018427387908",
+        "9223372036854775812",
+        "18446744073709551614",
+        "18446744073709551615",
+        "18446744073709551616",
+        "18446744073709551618",
+        "18446744073709551620",
+        "36893488147419103236",
+        "99999999999999999999",
+        "340282366920938463463374607431768211458",
+        "340282366920938463463374607431768211460",
+        "999999999999999999999999999999999999999999999999999999999999",
+    };
+    worked_scan();
+    for (int i = 0; i < 9; i++) {
+        ply_header(&ply, four[i / 3], INTS, two[i % 3]);
+        worked_body();
+        CHECK("counts", scans(44));
+    }
+    for (size_t i = 0; i < sizeof others / sizeof others[0]; i++) {
+        ply_header(&ply, others[i], INTS, "2");
+        worked_body();
+        check(refuses_scan(44, DESK_LIMIT_PLY_FORM, 0), "counts", others[i], __LINE__);
+        ply_header(&ply, "4", INTS, others[i]);
+        worked_body();
+        check(refuses_scan(44, DESK_LIMIT_PLY_FORM, 0), "counts", others[i], __LINE__);
+    }
+    puts("c: counts");
+}
+
+/* The most faces of a file, and one more. */
+static void scan_most(void)
+{
+    worked(DESK_TRIANGLES_MOST);
+    ply_header(&ply, "3", INTS, "4095");
+    for (int i = 0; i < 9; i++) {
+        ply_int(&ply, VERTICES[i / 3][i % 3]);
+    }
+    for (int i = 0; i < DESK_TRIANGLES_MOST; i++) {
+        ply_face(&ply, 0, 1, 2);
+    }
+    CHECK("most faces", scans(DESK_FILE_MOST) && scans(sizeof out));
+    CHECK("most faces", refuses_scan(DESK_FILE_MOST - 1, DESK_LIMIT_SHORT_OUTPUT, 0));
+    /* the last face */
+    ply.length -= 13;
+    ply_face(&ply, 0, 1, 3);
+    CHECK("most faces", refuses_scan(sizeof out, DESK_LIMIT_PLY_FACE, DESK_TRIANGLES_MOST - 1));
+    flat_ply("1", 1, "4096");
+    for (int i = 0; i <= DESK_TRIANGLES_MOST; i++) {
+        ply_face(&ply, 0, 0, 0);
+    }
+    CHECK("most faces", refuses_scan(sizeof out, DESK_LIMIT_PLY_FORM, 0));
+    puts("c: the most faces");
+}
+
+/* The lowest vertex is named, used by a face or not. */
+static void scan_vertices(void)
+{
+    worked(0);
+    for (int from = 0; from < 15; from++) {
+        flat_ply("5", 5, "1");
+        const size_t end = ply.length;
+        for (int i = from; i < 15; i += 4) {
+            /* another number of the same and of later vertices is out of the field */
+            ply.length = end - 4 * (15 - (size_t)i);
+            ply_int(&ply, i % 2 ? 8192 : -8193);
+        }
+        ply.length = end;
+        ply_face(&ply, 4, 4, 4);
+        CHECK("vertices", refuses_scan(28, DESK_LIMIT_PLY_VERTEX, (uint32_t)from / 3));
+    }
+    puts("c: vertices");
+}
+
+/* Faces of other corners than three, and of indices that no vertex has; the lowest is named. */
+static void scan_faces(void)
+{
+    static const unsigned corners[] = {0, 1, 2, 4, 5, 127, 128, 254, 255};
+    static const int32_t wrong[] = {3, 256, 65536, 16777216, INT32_MAX, INT32_MIN, INT32_MIN + 1, -1, -3};
+    worked(1);
+    for (size_t i = 0; i < sizeof corners / sizeof corners[0]; i++) {
+        flat_ply("1", 1, "4");
+        ply_face(&ply, 0, 0, 0);
+        ply_corners(&ply, corners[i], 0);
+        ply_corners(&ply, corners[i], 0);
+        ply_face(&ply, 0, 0, 0);
+        CHECK("corners", refuses_scan(sizeof out, DESK_LIMIT_PLY_FACE, 1));
+        ply.length--;
+        CHECK("corners", refuses_scan(sizeof out, DESK_LIMIT_PLY_FORM, 0));
+        ply.length++;
+        ply_bits(&ply, 1, 0);
+        CHECK("corners", refuses_scan(sizeof out, DESK_LIMIT_PLY_FORM, 0));
+    }
+    for (size_t i = 0; i < sizeof wrong / sizeof wrong[0]; i++) {
+        for (int corner = 0; corner < 3; corner++) {
+            flat_ply("3", 3, "3");
+            ply_face(&ply, 0, 1, 2);
+            ply_face(&ply, corner == 0 ? wrong[i] : 0, corner == 1 ? wrong[i] : 1, corner == 2 ? wrong[i] : 2);
+            ply_face(&ply, wrong[i], wrong[i], wrong[i]);
+            CHECK("indices", refuses_scan(sizeof out, DESK_LIMIT_PLY_FACE, 1));
+        }
+    }
+    /* without a vertex there is no index */
+    flat_ply("0", 0, "1");
+    ply_face(&ply, 0, 0, 0);
+    CHECK("indices", refuses_scan(28, DESK_LIMIT_PLY_FACE, 0));
+    puts("c: faces");
+}
+
+/* Scanner files that break several limits: the answer is by the first, with any room. */
+static void scan_order(void)
+{
+    static const uint64_t rooms[] = {0, 11, 12, 27, 28, 100};
+    for (unsigned number = DESK_LIMIT_PLY_FORM; number <= DESK_LIMIT_PLY_FACE; number++) {
+        /* a vertex out of the field for 13 and 14, a face without a vertex for all, and a byte too many for 13 */
+        flat_ply("2", 2, "1");
+        if (number <= DESK_LIMIT_PLY_VERTEX) {
+            ply.length -= 4;
+            ply_int(&ply, 8192);
+        }
+        ply_face(&ply, 0, 0, 2);
+        if (number == DESK_LIMIT_PLY_FORM) {
+            ply_bits(&ply, 1, 0);
+        }
+        for (size_t i = 0; i < sizeof rooms / sizeof rooms[0]; i++) {
+            worked(0);
+            CHECK("order", refuses_scan(rooms[i], number, number == DESK_LIMIT_PLY_VERTEX ? 1 : 0));
+            for (given.grid_len = 0; given.grid_len <= DESK_GRID_NUMBERS + 1; given.grid_len++) {
+                CHECK("order", given.grid_len == DESK_GRID_NUMBERS || refuses_scan(rooms[i], DESK_LIMIT_UNWRITABLE, 0));
+            }
+            for (int at = 0; at < DESK_GRID_NUMBERS; at++) {
+                worked(0);
+                given.grid[at] = at < DESK_AT_ORIGIN ? 0 : 8172;
+                CHECK("order", refuses_scan(rooms[i], DESK_LIMIT_UNWRITABLE, 0));
+            }
+        }
+    }
+    puts("c: order of a scanner file's limits");
+}
+
+/* The grid's numbers at their borders, and outputs of every length, with a good scanner file. */
+static void scan_grids(void)
+{
+    static const int32_t low[3] = {1, 1, -8192}, high[3] = {64, 255, 8171};
+    for (int at = 0; at < DESK_GRID_NUMBERS; at++) {
+        const int field = at < DESK_AT_EDGE ? 0 : at == DESK_AT_EDGE ? 1 : 2;
+        const int32_t inside[2] = {low[field], high[field]};
+        const int32_t outside[4] = {low[field] - 1, high[field] + 1, INT32_MIN, INT32_MAX};
+        worked_scan();
+        worked_ply();
+        for (int i = 0; i < 2; i++) {
+            given.grid[at] = inside[i];
+            CHECK("grids", scans(44));
+        }
+        for (int i = 0; i < 4; i++) {
+            given.grid[at] = outside[i];
+            CHECK("grids", refuses_scan(44, DESK_LIMIT_UNWRITABLE, 0));
+        }
+    }
+    worked_scan();
+    for (uint64_t room = 0; room <= 46; room++) {
+        CHECK("grids", room < 44 ? refuses_scan(room, DESK_LIMIT_SHORT_OUTPUT, 0) : scans(room));
+    }
+    puts("c: grids and outputs of a scanner file");
 }
 
 /* ---- the bar behind a cell */
@@ -440,6 +1053,14 @@ static void nulls(void)
     CHECK("null out", desk_write(given.grid, 7, given.triangles, 10, NULL, 0) == eleven);
     CHECK("null out", desk_write(given.grid, 7, NULL, 0, NULL, 0) == eleven);
     CHECK("all null", desk_write(NULL, 0, NULL, 0, NULL, 0) == twelve);
+    const uint64_t thirteen = (uint64_t)DESK_REFUSED << 56 | (uint64_t)DESK_LIMIT_PLY_FORM << 48;
+    worked_ply();
+    memset(out, 0xaa, sizeof out);
+    CHECK("null ply", desk_scan(NULL, 0, given.grid, 7, out, 44) == thirteen && out[0] == 0xaa);
+    CHECK("null ply", desk_scan(NULL, 0, given.grid, 7, NULL, 0) == thirteen);
+    CHECK("null grid", desk_scan(ply.bytes, ply.length, NULL, 0, out, 44) == twelve && out[0] == 0xaa);
+    CHECK("null out", desk_scan(ply.bytes, ply.length, given.grid, 7, NULL, 0) == eleven);
+    CHECK("all null", desk_scan(NULL, 0, NULL, 0, NULL, 0) == twelve);
     struct frame g = rows_file(1, G, NULL, NULL);
     const uint64_t one = (uint64_t)DESK_REFUSED << 56 | (uint64_t)DESK_LIMIT_SHORT_HEADER << 48;
     CHECK("null file", desk_bar(NULL, 0, 0, weights, ROOM) == one && desk_bar(NULL, 0, 0, NULL, 0) == one);
@@ -479,6 +1100,19 @@ int main(void)
     far_corners();
     lists();
     outputs();
+    scan_bytes();
+    scan_types();
+    scan_rounding();
+    scan_bits();
+    scan_lines();
+    scan_damage();
+    scan_comments();
+    scan_counts();
+    scan_most();
+    scan_vertices();
+    scan_faces();
+    scan_order();
+    scan_grids();
     bars();
     lowest();
     cell_numbers();
