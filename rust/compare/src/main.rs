@@ -1,6 +1,8 @@
 //! Compares the verified libraries with the independent version.
 //!
-//!     compare          pseudo-random frames and routes, damaged files, short and long buffers, values to write, bars
+//!     compare          pseudo-random frames and routes, damaged files, short and long buffers, values to write, scanner files,
+//!                      bars
+//!     compare scans    the scanner files alone
 //!     compare long     a million damaged files
 //!     compare cases    the cases that the program digests reads
 //!     compare digest   the lines that the program digests must print, from the independent version
@@ -10,6 +12,8 @@ mod clipped;
 mod damage;
 mod digest;
 mod random;
+mod scanner;
+mod scans;
 mod scene;
 mod tally;
 mod writing;
@@ -20,6 +24,7 @@ use tally::Tally;
 
 const FRAMES: u64 = 30_000;
 const WRITES: u64 = 100_000;
+const SCANS: u64 = 200_000;
 
 fn main() -> ExitCode {
     let mut tally = Tally::default();
@@ -42,7 +47,9 @@ fn main() -> ExitCode {
             let writes = writing::each(&mut tally);
             (0..WRITES).for_each(|seed| writing::by_chance(&mut tally, seed));
             println!("writes: {writes} at borders and {WRITES} by chance compared");
+            compare_scans(&mut tally);
         }
+        Some("scans") => compare_scans(&mut tally),
         Some("long") => damage::many(&mut tally, 1_000_000),
         Some("cases") => {
             digest::print_cases();
@@ -53,7 +60,7 @@ fn main() -> ExitCode {
             return ExitCode::SUCCESS;
         }
         Some(_) => {
-            eprintln!("compare, compare long, compare cases or compare digest");
+            eprintln!("compare, compare scans, compare long, compare cases or compare digest");
             return ExitCode::FAILURE;
         }
     }
@@ -63,9 +70,14 @@ fn main() -> ExitCode {
     let kinds = bars::KINDS.iter().zip(tally.bars);
     let kinds: Vec<String> = kinds.map(|(kind, n)| format!("{n} {kind}")).collect();
     println!("bars: {}", kinds.join(", "));
+    let refused = scans::LIMITS.iter().zip(tally.unscanned);
+    let refused: Vec<String> = refused
+        .map(|(limit, n)| format!("{n} by {limit}"))
+        .collect();
+    println!("refused scans: {}", refused.join(", "));
     println!(
         "compare: {} fills ({} accepted), {} fills in steps, {} routes ({} free, {} blocked), {} readings, \
-         {} writes ({} written), {} round trips, \
+         {} writes ({} written), {} round trips, {} scans ({} written), \
          {} cells ({} with a bar, {} clear, {} outside), {} failed",
         tally.fills,
         tally.accepted,
@@ -77,6 +89,8 @@ fn main() -> ExitCode {
         tally.writes,
         tally.written,
         tally.round_trips,
+        tally.scans,
+        tally.scanned,
         tally.cells,
         tally.behind,
         tally.clear,
@@ -88,6 +102,13 @@ fn main() -> ExitCode {
     } else {
         ExitCode::FAILURE
     }
+}
+
+/// The scanner files.
+fn compare_scans(tally: &mut Tally) {
+    let scans = scans::each(tally);
+    (0..SCANS).for_each(|seed| scans::by_chance(tally, seed));
+    println!("scans: {scans} at borders and {SCANS} by chance compared");
 }
 
 /// One frame: fills of buffers of several lengths, routes on its map and on others, readings, writing it, and its bars.

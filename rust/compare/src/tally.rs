@@ -3,6 +3,8 @@
 use crate::bars::{self, Shown};
 use crate::clipped::{self, Block};
 use crate::random::Random;
+use crate::scanner::Ply;
+use crate::scans;
 
 /// What was compared, and how often the two differed.
 #[derive(Default)]
@@ -25,6 +27,10 @@ pub struct Tally {
     pub outside: usize,
     /// The cells with a bar behind them by what it is like.
     pub bars: [usize; bars::KINDS.len()],
+    pub scans: usize,
+    pub scanned: usize,
+    /// The scans that are refused, by their limit.
+    pub unscanned: [usize; scans::LIMITS.len()],
     pub failed: usize,
     /// The seed of what is compared now, for the message.
     pub seed: u64,
@@ -322,6 +328,73 @@ impl Tally {
         if answer.is_ok() && triangles.len() <= 100 {
             self.read_back(grid, triangles);
         }
+    }
+
+    /// Both read a scanner file into an output of this length with any contents: each bit of the answer is as wanted, all bytes
+    /// are the same, and a refusal changes none. The wrapper does the same. Gives the answer.
+    pub fn scan(
+        &mut self,
+        random: &mut Random,
+        ply: &[u8],
+        grid: &[i32],
+        length: usize,
+    ) -> Result<usize, (u32, usize)> {
+        self.scans += 1;
+        let before = random.bytes(length);
+        let [mut out, mut wrapped_out, mut apart_out] = [0; 3].map(|_| before.clone());
+        let answer = scans::call(ply, grid, &mut out);
+        let wrapped = desk::scan_numbers(ply, grid, &mut wrapped_out).map_err(said);
+        let apart = independent::scan(ply, grid, &mut apart_out).map_err(said_apart);
+        let kept = wrapped.is_ok() || out == before;
+        let same = out == apart_out && wrapped_out == apart_out;
+        if answer != scans::packed(apart) || wrapped != apart || !same || !kept {
+            let first = out.iter().zip(&apart_out).position(|(a, b)| a != b);
+            let answer = format!("{answer:#018x}, {wrapped:?}, first differing byte {first:?}");
+            self.differ_scan(ply, grid, length, &answer, &format!("{apart:?}"));
+        }
+        match apart {
+            Ok(_) => self.scanned += 1,
+            Err((number, _)) => {
+                let limit = scans::LIMITS.iter().position(|&limit| limit == number);
+                self.unscanned[limit.unwrap()] += 1;
+            }
+        }
+        wrapped
+    }
+
+    /// The same of a file whose counts are right. What the third opinion says is said; where it gives triangles and there is
+    /// room for them, the file is the one that the writer writes from them.
+    pub fn scan_whole(&mut self, random: &mut Random, ply: &Ply, grid: &[i32], length: usize) {
+        let file = ply.write();
+        let answer = self.scan(random, &file, grid, length);
+        let (mut out, mut wanted) = (vec![0; length], vec![0; length]);
+        let third = desk::write_numbers(grid, &[], &mut [0; 12])
+            .map_err(said)
+            .and_then(|_| ply.triangles())
+            .and_then(|list| desk::write_numbers(grid, &list, &mut wanted).map_err(said));
+        desk::scan_numbers(&file, grid, &mut out).ok();
+        if answer != third || out != wanted {
+            let third = format!("by floats {third:?}");
+            self.differ_scan(&file, grid, length, &format!("{answer:?}"), &third);
+        }
+    }
+
+    /// Counts a difference of scans, and says of a long file its beginning.
+    pub fn differ_scan(
+        &mut self,
+        ply: &[u8],
+        grid: &[i32],
+        length: usize,
+        library: &str,
+        other: &str,
+    ) {
+        let first = &ply[..ply.len().min(2_000)];
+        let text = String::from_utf8_lossy(first);
+        let lent = format!(
+            "{} bytes, {text:?}, grid {grid:?}, output of {length} bytes",
+            ply.len()
+        );
+        self.differ("scan", first, &lent, library, other);
     }
 
     /// What is written reads back as the values given, all of them.

@@ -18,11 +18,7 @@ pub struct Given {
 impl Given {
     /// Values in their fields, with far corners up to 8,191, and so many triangles.
     fn any(random: &mut Random, count: usize) -> Given {
-        let mut grid: Vec<i32> = (0..4).map(|at| in_field(random, at)).collect();
-        for axis in 0..3 {
-            let far = 8191 - grid[axis] * grid[3];
-            grid.push(random.between(-8192, far.into()) as i32);
-        }
+        let grid = grid(random);
         let triangles = (0..TRIANGLE * count).map(|at| in_field(random, GRID + at));
         let triangles = triangles.collect();
         Given { grid, triangles }
@@ -47,6 +43,31 @@ impl Given {
     fn length(&self) -> usize {
         12 + 16 * (self.triangles.len() / TRIANGLE)
     }
+}
+
+/// A grid's values in their fields, with far corners up to 8,191.
+pub fn grid(random: &mut Random) -> Vec<i32> {
+    let mut grid: Vec<i32> = (0..4).map(|at| in_field(random, at)).collect();
+    for axis in 0..3 {
+        let far = 8191 - grid[axis] * grid[3];
+        grid.push(random.between(-8192, far.into()) as i32);
+    }
+    grid
+}
+
+/// A grid with each number at its borders, from the lowest origin on; with each far corner at 8,191 and one more; and of other
+/// numbers than seven.
+pub fn grids_at_borders(random: &mut Random) -> Vec<Vec<i32>> {
+    let given = Given::any(random, 0).lowest();
+    let at_borders = (0..GRID).flat_map(|at| borders(at).map(|value| given.with(at, value)));
+    let far = (0..3).flat_map(|axis| {
+        let last = 8191 - given.grid[axis] * given.grid[3];
+        [last, last + 1].map(|origin| given.with(4 + axis, origin))
+    });
+    let grids = at_borders.chain(far).map(|given| given.grid);
+    let longest = [&given.grid[..], &[1; GRID]].concat();
+    let others = (0..longest.len()).map(|numbers| longest[..numbers].to_vec());
+    grids.chain(others).collect()
 }
 
 /// The least and the greatest value of the field at a place.
