@@ -1,5 +1,5 @@
-//! Fills maps, tests routes, writes files and shows bars by the verified libraries and by peers written in
-//! Rust, to count instructions, to time, and to compare.
+//! Fills maps, tests routes, writes files, reads scanner files and shows bars by the verified libraries and by peers written
+//! in Rust, to count instructions, to time, and to compare.
 //!
 //! ```text
 //! bench fill PEER SCENE CELLS N       fill the scene's map N times, CELLS cells a side
@@ -7,12 +7,14 @@
 //! bench route PEER SHAPE ANSWER N     test a route of 63 legs N times: slim or wide, free or blocked
 //! bench legs PEER SCENE WAY N         test 64 blocked legs N times, each by a call: from, into, up or down
 //! bench write PEER N                  write a file of 4,095 triangles N times
+//! bench scan PEER SCENE N             read a scanner file of 4,095 faces N times: float, double, int, mixed, apart or comments
 //! bench bar PEER SCENE N              search for the bars behind the scene's cells N times: far, around, last or stall
 //! bench time fill SCENE CELLS         print the microseconds of rattle and of halving
 //! bench time route SHAPE ANSWER       print the microseconds of rattle, rows, box and cells
 //! bench time write                    print the microseconds of rattle and of words
+//! bench time scan SCENE               print the microseconds of rattle, types and words
 //! bench time bar SCENE                print the microseconds of rattle and of records, of all cells of the scene
-//! bench stack                         print the greatest stack of a fill, a route test, a reading, a write, a bar
+//! bench stack                         print the greatest stack of a fill, a route test, a reading, a write, a bar, a scan
 //! bench check                         hold every peer to the documents as printed, and to the others
 //! ```
 
@@ -27,6 +29,7 @@ mod printed;
 mod routes;
 mod rule;
 mod runs;
+mod scanning;
 mod scenes;
 mod stack;
 mod time;
@@ -163,6 +166,18 @@ fn time_write() -> Vec<f64> {
     }))
 }
 
+/// The times of the readers of scanner files.
+fn time_scan(scene: &str) -> Vec<f64> {
+    let (ply, grid) = (scanning::file(scene), writing::grid());
+    time::medians(&mut scanning::PEERS.map(|(_, scan)| {
+        let (ply, grid, mut out) = (&ply, &grid, vec![0; desk::FILE_MOST]);
+        move || {
+            let (ply, grid) = (black_box(ply), black_box(grid));
+            black_box(scan(ply, grid, black_box(&mut out)).unwrap());
+        }
+    }))
+}
+
 /// Searches for the bars behind some cells of a file, a call for each.
 fn search_bars(search: bar::Search, file: &[u8], cells: &[usize]) {
     for cell in cells {
@@ -180,8 +195,8 @@ fn time_bar(scene: &str) -> Vec<f64> {
 }
 
 /// The greatest stack of a fill, over the scenes; of a route test, over the routes; of a reading; of a write; of a bar, over
-/// the scenes and their cells.
-fn stacks() -> [usize; 5] {
+/// the scenes and their cells; of a scan, over the scenes.
+fn stacks() -> [usize; 6] {
     let mut map = vec![0; LENT];
     let fills = scenes::SCENES.map(|scene| stack::fill(&scenes::file(scene, 64), &mut map));
     let tests = routes::ROUTES.map(|(shape, answer)| {
@@ -194,12 +209,14 @@ fn stacks() -> [usize; 5] {
         let (file, cells) = bar::scene(scene);
         cells.into_iter().map(move |cell| stack::bar(&file, cell))
     });
+    let scans = scanning::SCENES.map(|scene| stack::scan(&scanning::file(scene), &grid));
     [
         fills.into_iter().max().unwrap(),
         tests.into_iter().max().unwrap(),
         reading,
         stack::write(&grid, &triangles),
         bars.max().unwrap(),
+        scans.into_iter().max().unwrap(),
     ]
 }
 
@@ -217,6 +234,7 @@ fn main() {
             check();
             routes::check();
             writing::check();
+            scanning::check();
             bar::check();
         }
         ["count", scene, cells] => {
@@ -227,6 +245,7 @@ fn main() {
         ["time", "fill", scene, cells] => print(&time_fill(scene, cells.parse().unwrap())),
         ["time", "route", shape, answer] => print(&time_route(shape, answer)),
         ["time", "write"] => print(&time_write()),
+        ["time", "scan", scene] => print(&time_scan(scene)),
         ["time", "bar", scene] => print(&time_bar(scene)),
         ["fill", peer, scene, cells, times] => {
             let fill = named(&PEERS, peer);
@@ -251,6 +270,15 @@ fn main() {
             for _ in 0..times.parse().unwrap() {
                 let (grid, triangles) = (black_box(&grid), black_box(&triangles));
                 black_box(write(grid, triangles, black_box(&mut out)).unwrap());
+            }
+        }
+        ["scan", peer, scene, times] => {
+            let scan = named(&scanning::PEERS, peer);
+            let (ply, grid) = (scanning::file(scene), writing::grid());
+            let mut out = vec![0; desk::FILE_MOST];
+            for _ in 0..times.parse().unwrap() {
+                let (ply, grid) = (black_box(&ply), black_box(&grid));
+                black_box(scan(ply, grid, black_box(&mut out)).unwrap());
             }
         }
         ["bar", peer, scene, times] => {

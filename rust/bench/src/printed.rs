@@ -22,6 +22,11 @@ pub fn write(grid: &[i32], triangles: &[i32], out: &mut [u8]) -> Result<usize, R
     independent::write_file(grid, triangles, out).map_err(refusal)
 }
 
+/// The reader of scanner files.
+pub fn scan(ply: &[u8], grid: &[i32], out: &mut [u8]) -> Result<usize, Refusal> {
+    independent::scan(ply, grid, out).map_err(refusal)
+}
+
 /// The number of the record behind a cell.
 pub fn bar(file: &[u8], cell: usize) -> Result<Option<usize>, Refusal> {
     independent::bar(file, cell).map_err(refusal)

@@ -1,7 +1,7 @@
 //! How much stack the libraries' calls take: a call runs on painted bytes, and the paint that is left
 //! is counted. For x86-64.
 
-use desk::library::{desk_bar, desk_write};
+use desk::library::{desk_bar, desk_scan, desk_write};
 use stall::library::{stall_fill, stall_read, stall_route};
 use std::arch::asm;
 
@@ -78,6 +78,17 @@ pub fn write(grid: &[i32], triangles: &[i32]) -> usize {
     let arguments = [grid, grid_len, triangles, triangles_len, out, out_len];
     // SAFETY: the slices outlive the call, and the library keeps none.
     unsafe { depth(desk_write as *const (), arguments) }
+}
+
+/// The stack of a scan.
+pub fn scan(ply: &[u8], grid: &[i32]) -> usize {
+    let mut out = vec![0u8; desk::FILE_MOST];
+    let (ply, ply_len) = (ply.as_ptr() as usize, ply.len());
+    let (grid, grid_len) = (grid.as_ptr() as usize, grid.len());
+    let (out, out_len) = (out.as_mut_ptr() as usize, out.len());
+    let arguments = [ply, ply_len, grid, grid_len, out, out_len];
+    // SAFETY: the slices outlive the call, and the library keeps none.
+    unsafe { depth(desk_scan as *const (), arguments) }
 }
 
 /// The stack of a search for the bar behind a cell.

@@ -42,7 +42,7 @@ fn by_words(grid: &[i32], triangles: &[i32], out: &mut [u8]) -> Result<usize, Re
 }
 
 /// Whether the grid's numbers are in their fields, and its far corners at most 8,191.
-fn grid_fits(grid: &[i32; 7]) -> bool {
+pub fn grid_fits(grid: &[i32; 7]) -> bool {
     let edge = grid[3];
     let axis_fits = |axis: usize| {
         let (cells, origin) = (grid[axis], grid[4 + axis]);
@@ -62,7 +62,7 @@ fn record_fits(record: &[i32; 10]) -> bool {
 }
 
 /// The bits of the header, the lowest 96.
-fn header_word(grid: &[i32; 7], count: usize) -> u128 {
+pub fn header_word(grid: &[i32; 7], count: usize) -> u128 {
     let [nx, ny, nz, edge, x, y, z] = *grid;
     let cells = [nx - 1, ny - 1, nz - 1].map(|cells| (cells, 6));
     let origin = [x, y, z].map(|value| (value, 14));
@@ -74,7 +74,7 @@ fn header_word(grid: &[i32; 7], count: usize) -> u128 {
 }
 
 /// The bits of a record, in two words.
-fn record_words(record: &[i32; 10]) -> [u64; 2] {
+pub fn record_words(record: &[i32; 10]) -> [u64; 2] {
     let at = |number: usize| record[number] as u64 & 0x3fff;
     let kind = record[0] as u64;
     [
@@ -85,20 +85,25 @@ fn record_words(record: &[i32; 10]) -> [u64; 2] {
 
 // ---- the values to measure, and the check
 
-/// The grid of 64 cells a side, and as many triangles as a file can hold: those of the worst scene, of all kinds.
-pub fn values() -> (Vec<i32>, Vec<i32>) {
+/// The numbers of the grid of 64 cells a side.
+pub fn grid() -> Vec<i32> {
     let grid = scenes::grid(64);
     let grid = desk::Grid {
         cells: grid.cells.map(|cells| cells as i32),
         edge: grid.edge as i32,
         origin: grid.origin.map(|value| value as i32),
     };
+    grid.numbers().to_vec()
+}
+
+/// The grid of 64 cells a side, and as many triangles as a file can hold: those of the worst scene, of all kinds.
+pub fn values() -> (Vec<i32>, Vec<i32>) {
     let mut triangles = Vec::new();
     for (i, corners) in scenes::triangles("worst").iter().enumerate() {
         triangles.push(i as i32 % 3);
         triangles.extend(corners.iter().flatten().map(|&value| value as i32));
     }
-    (grid.numbers().to_vec(), triangles)
+    (grid(), triangles)
 }
 
 /// Any value from low to high; now and then one beyond, or any number.
