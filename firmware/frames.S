@@ -24,6 +24,9 @@
     frame g
     frame h
     frame i
+    frame scan_float
+    frame scan_double
+    frame scan_int
     frame stall
     bytes digest_cases, crates/digests/stdin
 #ifdef __linux__

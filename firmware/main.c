@@ -93,7 +93,9 @@ static void say(const char *what, uint64_t answer)
 /* ---- the example frames */
 
 #define DECLARE(name) extern const uint8_t frame_##name[], frame_##name##_end[];
-#define FRAMES(each) each(a) each(b) each(c) each(d) each(e) each(f) each(g) each(h) each(i) each(stall)
+#define FRAMES(each) \
+    each(a) each(b) each(c) each(d) each(e) each(f) each(g) each(h) each(i) \
+    each(scan_float) each(scan_double) each(scan_int) each(stall)
 FRAMES(DECLARE)
 
 struct example {
