@@ -1,0 +1,12 @@
+-- The rounding is the only one there is.
+pub mod Rounded
+-- No number is lost on the way to it.
+pub mod Widened
+-- Each number of a triangle is at most half from its exact value.
+pub mod Half
+-- The outcome is the writer's, and reads back.
+pub mod Written
+-- Floats, headers and a file, worked.
+pub mod WorkedRounding
+pub mod WorkedHeaders
+pub mod WorkedFile

@@ -1,0 +1,1 @@
+// What a scanner's file becomes, in words: theorems; no code.
