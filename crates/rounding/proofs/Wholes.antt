@@ -4,7 +4,7 @@
 --     same                          a vertex by its three numbers
 -- Assumes nothing.
 use mathlib.Core.Bool.{Bool, true, false, true≢false}
-use mathlib.Core.Path.{_≡_, refl, sym, ap, _∙_, subst}
+use mathlib.Core.Path.{_≡_, sym, ap, _∙_, subst}
 use Prim.Native.Nat.{ℕ, suc, _*_, _^_, _<_}
 use native.Mathlib.Nat.{mul-one, lt-of-lt-of-le, zero-lt-suc}
 use native.Mathlib.Omega.{arith}

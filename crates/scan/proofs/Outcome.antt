@@ -5,8 +5,8 @@
 -- Assumes nothing.
 use mathlib.Core.Bool.{true, false}
 use mathlib.Core.List.{List, [], _∷_, _++_}
-use mathlib.Core.Path.{_≡_, refl, sym, ap, ap₂, _∙_}
-use Prim.Native.Nat.{ℕ, _<_, _≤_}
+use mathlib.Core.Path.{_≡_, refl, sym, ap, _∙_}
+use Prim.Native.Nat.{ℕ, _≤_}
 use native.Mathlib.Omega.{arith}
 use borrow.Author.Tests.{eq-eqb}
 use lib.Dec.{leb}
@@ -18,9 +18,8 @@ use Rattle.refusal.specs.Inner.{Passing, passed, asked}
 use Rattle.refusal.proofs.Asking.{through, andThen, both-passed, first-append, refuses, passes}
 use Rattle.layout.specs.Layout.{version1, recordStart}
 use Rattle.layout_write.specs.Writing.{headerBytes, recordBytes}
-use Rattle.writable.specs.Fits.{triangleNumbers}
 use Rattle.frame_write.specs.declared.GridValues.{GridValues}
-use Rattle.frame_write.specs.Write.{headerToWrite, concatBelow, triangleCount, recordsBytes, writeQuestions, fileBytes, writing, writtenBytes}
+use Rattle.frame_write.specs.Write.{headerToWrite, concatBelow, triangleCount, recordsBytes, writeQuestions, fileBytes}
 use Rattle.frame_write.proofs.Asked.{write-refused, write-given}
 use Rattle.frame_write.proofs.Pieces.{pieces-same}
 use Rattle.ply_header.specs.declared.Form.{Form}

@@ -3,7 +3,6 @@ use mathlib.Core.Bool.{Bool, cond}
 use mathlib.Core.List.{List, _++_}
 use Prim.Native.Nat.{ℕ}
 use lib.IntN.{ℤ}
-use lib.ListN.{length}
 use Rattle.refusal.specs.Limit.{Answer, gives, refused}
 use Rattle.refusal.specs.Questions.{Question, answered, ofEach}
 use Rattle.layout.specs.Layout.{version1}

@@ -1,7 +1,7 @@
 -- `desk::desk_write` meets its contract: the writer's answer, packed. Assumes nothing.
 use borrow.Author.Needs.{needs}
 use borrow.Author.Tests.{eq-eqb, ne-eqb}
-use mathlib.Core.Path.{_≡_, ap, _∙_}
+use mathlib.Core.Path.{ap, _∙_}
 use lib.ListN.{length}
 use Rattle.pack.specs.Pack.{packedCount}
 use Rattle.pack.proofs.Unpack.{counted}

@@ -1,14 +1,13 @@
 -- `frame_write::write` meets its contract: it is refused, or gives its file, as the questions say. Assumes nothing.
 use borrow.Author.Needs.{needs}
-use mathlib.Core.List.{_++_}
 use mathlib.Core.Path.{_≡_, sym, ap, _∙_}
-use lib.ListN.{length, drop}
+use lib.ListN.{length}
 use Rattle.refusal.specs.Limit.{gives}
 use Rattle.refusal.specs.Inner.{saidVerdict, asked}
 use Rattle.layout.specs.declared.Layout.{Layout}
-use Rattle.layout.specs.Layout.{version1, recordStart}
+use Rattle.layout.specs.Layout.{version1}
 use Rattle.layout_write.proofs.Rows.{version1-writable}
-use Rattle.frame_write.specs.Write.{triangleCount, writeQuestions, fileBytes}
+use Rattle.frame_write.specs.Write.{writeQuestions}
 use Rattle.frame_write.proofs.Asked.{write-refused, write-given}
 use Rattle.frame_write.proofs.write.Statement.{statement}
 use Rattle.frame_write.proofs.write.Tie as tie

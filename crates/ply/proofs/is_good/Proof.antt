@@ -1,8 +1,7 @@
 -- `ply::is_good` meets its contract: three corners, each of them a vertex. Assumes nothing.
 use borrow.Author.Needs.{needs}
 use borrow.Author.Tests.{eq-eqb, ne-eqb, not-true, not-false}
-use mathlib.Core.Path.{_≡_, sym, _∙_}
-use native.Mathlib.Omega.{arith}
+use mathlib.Core.Path.{sym, _∙_}
 use Rattle.ply.specs.Body.{goodFace}
 use Rattle.ply.proofs.is_good.Statement.{statement}
 use Rattle.ply.proofs.is_good.Tie as tie

@@ -1,12 +1,11 @@
 -- `ply_vertex::is_placed` meets its contract: the first number that is not there ends it. Assumes nothing.
 use borrow.Author.Needs.{needs}
 use borrow.Author.Tests.{not-true, not-false}
-use mathlib.Core.Bool.{Bool}
 use mathlib.Core.Path.{_≡_, sym, ap, _∙_}
 use Prim.Native.Nat.{ℕ, _+_}
 use Rattle.rounding.specs.Rounding.{roundedOf, isWhole}
 use Rattle.rounding.specs.Widening.{widenedOf}
-use Rattle.ply_vertex.specs.Vertex.{widthOf, numberAt, vertexAt, placed}
+use Rattle.ply_vertex.specs.Vertex.{numberAt, vertexAt, placed}
 use Rattle.ply_vertex.proofs.Parts.{first-in, second-in, third-in}
 use Rattle.ply_vertex.proofs.is_placed.Statement.{statement}
 use Rattle.ply_vertex.proofs.is_placed.Tie as tie

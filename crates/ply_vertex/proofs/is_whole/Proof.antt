@@ -1,6 +1,6 @@
 -- `ply_vertex::is_whole` meets its contract: what is not a number is told first. Assumes nothing.
 use borrow.Author.Needs.{needs}
-use mathlib.Core.Path.{_≡_, sym, ap, _∙_}
+use mathlib.Core.Path.{sym, ap, _∙_}
 use lib.Ieee.{Float}
 use Rattle.rounding.specs.Rounding.{roundedOf, isWhole}
 use Rattle.rounding.specs.Widening.{widenedOf}

@@ -1,6 +1,5 @@
 -- `ply_vertex::signed` meets its contract: from 2 ^ 31 on, 2 ^ 32 is taken away. Assumes nothing.
 use borrow.Author.Needs.{needs}
-use native.Mathlib.Omega.{arith}
 use Prim.Native.Nat.{_<_}
 use Rattle.ply_vertex.proofs.Patterns.{low-is, high-sub, high-fits, high-is}
 use Rattle.ply_vertex.proofs.signed.Statement.{statement}

@@ -1,7 +1,6 @@
 -- `ply_vertex::word` meets its contract: four bytes that are there. Assumes nothing.
 use borrow.Author.Needs.{needs}
 use mathlib.Core.Path.{_∙_}
-use native.Mathlib.Omega.{arith}
 use Rattle.ply_vertex.proofs.Parts.{word-is}
 use Rattle.ply_vertex.proofs.word.Statement.{statement}
 use Rattle.ply_vertex.proofs.word.Tie as tie

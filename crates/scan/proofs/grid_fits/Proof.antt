@@ -1,6 +1,6 @@
 -- `scan::grid_fits` meets its contract: the header is that of no triangles. Assumes nothing.
 use borrow.Author.Needs.{needs}
-use mathlib.Core.Path.{_≡_, ap, ap₂, _∙_}
+use mathlib.Core.Path.{ap, ap₂, _∙_}
 use lib.ListN.{length}
 use Rattle.layout_write.proofs.Rows.{version1-writable}
 use Rattle.writable.specs.Fits.{headerFits}

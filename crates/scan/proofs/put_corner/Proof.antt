@@ -1,15 +1,11 @@
 -- `scan::put_corner` meets its contract: three stores. Assumes nothing.
-use borrow.Author.Needs.{needs}
 use mathlib.Core.List.{List, [], _∷_}
 use mathlib.Core.Path.{_≡_, refl, _∙_}
-use Prim.Native.Nat.{ℕ}
 use native.Mathlib.Omega.{arith}
 use lib.IntN.{ℤ}
 use lib.ListN.{length, set, length-set}
 use mir.Syntax.{w32}
-use mir.Val.{toZ, ofZ}
 use Rattle.integers.proofs.Machine.{back}
-use Rattle.ply.specs.declared.Corner.{Corner}
 use Rattle.scan.proofs.put_corner.Statement.{statement}
 use Rattle.scan.proofs.put_corner.Tie as tie
 

@@ -1,12 +1,11 @@
 -- `scan::put_corners` meets its contract: corner by corner, each behind the one before. Assumes nothing.
 use borrow.Author.Needs.{needs}
-use borrow.Rule.Slice.PartMut.{putMid, same-len-mid}
+use borrow.Rule.Slice.PartMut.{putMid}
 use mathlib.Core.List.{List}
-use mathlib.Core.Path.{_≡_, refl, sym, ap, _∙_}
+use mathlib.Core.Path.{_≡_, refl, ap, _∙_}
 use Prim.Native.Nat.{ℕ, _+_, _*_, _-_, _≤_}
 use native.Mathlib.Omega.{arith}
-use lib.IntN.{ℤ}
-use lib.ListN.{length, take, drop}
+use lib.ListN.{length}
 use Rattle.frame_write.proofs.Pieces.{Filling, fill-none, fill-long, fill-room, fill-more, fill-all, length-part}
 use Rattle.ply_header.specs.declared.Form.{Form}
 use Rattle.scan.specs.Inner.{numbersOf, cornerNumbers}

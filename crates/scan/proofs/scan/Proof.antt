@@ -3,11 +3,10 @@ use borrow.Author.Needs.{needs}
 use borrow.Author.Tests.{not-true, not-false}
 use mathlib.Core.Bool.{true}
 use mathlib.Core.Path.{_≡_, sym, ap, _∙_}
-use Prim.Native.Nat.{_≤_}
 use Rattle.refusal.specs.Limit.{gives}
 use Rattle.refusal.specs.Inner.{saidVerdict}
 use Rattle.ply_header.specs.declared.Form.{Form}
-use Rattle.ply_header.specs.declared.Header.the-variants.{Taken, Other}
+use Rattle.ply_header.specs.declared.Header.the-variants.{Taken}
 use Rattle.ply.specs.Body.{taken}
 use Rattle.ply.proofs.Taken.{sized}
 use Rattle.scan.specs.Scan.{gridFits}
