@@ -19,10 +19,10 @@ ghost use Rattle.text.specs.Lines.{lineMost};
 ghost use Rattle.listing.specs.Listing.{cellLine, lineOf, saidBegun, begun, begunMap, begunBytes, refusalText, sideFits, usable, saidPiece, piece, pieceBytes};
 ghost use Rattle.listing.specs.Inner.{stopAt, Advances};
 
-// What is left to list: the grid, and the cell to go on from.
+// What is left to list: the grid, and the cell to go on from. Its fields are private: a program hands it on as it is.
 pub struct Rest {
-    pub grid: Grid,
-    pub from: usize,
+    grid: Grid,
+    from: usize,
 }
 
 // How a listing begins.
