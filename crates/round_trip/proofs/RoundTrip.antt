@@ -9,7 +9,7 @@ use lib.ListN.{length, getD, take, drop}
 use lib.Seq.{take-at}
 use Rattle.refusal.specs.Limit.{gives}
 use Rattle.refusal.specs.Inner.{passed, asked}
-use Rattle.refusal.proofs.Asking.{passes, asked-given}
+use Rattle.refusal.proofs.Asking.{asked-given}
 use Rattle.layout.specs.declared.Header.{Header}
 use Rattle.layout.specs.Layout.{version1, recordStart}
 use Rattle.frame.specs.File.{headerOf}
@@ -26,7 +26,7 @@ use Rattle.round_trip.proofs.Again.{file-again, asked-again}
 -- What a check says of bytes that read as values.
 checks : (g : GridValues) (zs : List ℤ) (s : List ℕ) → Reads version1 g zs s → checked s ≡ gives (headerOf s)
 unfolding checked
-checks g zs s r = passes (headerOf s) (fileQuestions s) (r .accepted)
+checks g zs s r = r .accepted
 
 pub write-then-read : WriteThenRead
 unfolding writing

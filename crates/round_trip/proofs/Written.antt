@@ -18,7 +18,7 @@ use Rattle.integers.proofs.Omega.{zarith, -!, abs! }
 use Rattle.bits.specs.Field.{fieldAt, bytesOf}
 use Rattle.refusal.specs.Questions.{Question, answered, ofEach}
 use Rattle.refusal.specs.Inner.{passed, asked}
-use Rattle.refusal.proofs.Asking.{first-append, each-none, each-more}
+use Rattle.refusal.proofs.Asking.{first-append, passes, each-none, each-more}
 use Rattle.layout.specs.declared.Header.{Header}
 use Rattle.layout.specs.declared.Layout.{Layout}
 use Rattle.layout.specs.Layout.{FieldForm, field, lessOne, headerFields, recordFields, recordStart, split}
@@ -168,7 +168,7 @@ module _ (l : Layout) (w : WritableLayout l) (g : GridValues) (zs : List ℤ) (r
   pub written-reads : Reads l g zs s
   written-reads =
       record {
-        accepted = ap (λ (h : Header). asked (questionsBy l h s)) header-is ∙ questions-pass;
+        accepted = passes (headerIn l s) (questionsBy l (headerIn l s) s) (ap (λ (h : Header). asked (questionsBy l h s)) header-is ∙ questions-pass);
         grid = ap gridValuesOf header-is ∙ grid-is;
         numbers = ap (λ (h : Header). recordsNumbers l s (h .count)) header-is ∙ numbers-are;
       }

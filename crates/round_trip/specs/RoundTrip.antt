@@ -5,11 +5,11 @@ use Prim.Native.Nat.{ℕ, _<_, _≤_}
 use lib.IntN.{ℤ, pos}
 use lib.ListN.{length, getD, take, drop}
 use Rattle.refusal.specs.Limit.{gives}
+use Rattle.refusal.specs.Questions.{answered}
 use Rattle.layout.specs.declared.Header.{Header}
 use Rattle.layout.specs.declared.Layout.{Layout}
 use Rattle.layout.specs.Layout.{version1}
 use Rattle.layout.specs.Values.{headerIn, recordIn, fromRecord}
-use Rattle.refusal.specs.Inner.{passed, asked}
 use Rattle.frame.specs.File.{headerOf}
 use Rattle.frame.specs.Questions.{questionsBy, checked}
 use Rattle.numbers.specs.Numbers.{recordNumbers}
@@ -28,7 +28,7 @@ recordsNumbers l s n = concatBelow (λ i. recordNumbers (recordIn l (fromRecord 
 
 -- Read by this layout, the bytes s are accepted, and they have these grid values and these triangles, all of them, in order.
 pub record Reads (l : Layout) (g : GridValues) (zs : List ℤ) (s : List ℕ) : Type 0 where
-  pub accepted : asked (questionsBy l (headerIn l s) s) ≡ passed
+  pub accepted : answered (questionsBy l (headerIn l s) s) (headerIn l s) ≡ gives (headerIn l s)
   pub grid : gridValuesOf (headerIn l s) ≡ g
   pub numbers : recordsNumbers l s (headerIn l s .count) ≡ zs
 
