@@ -3,7 +3,7 @@
 --     lines-same               lines that agree
 --     stop-here, -end          lines stop where there is no room for a line, and at the end of the cells
 --     stop-step, -skip         they go on behind a cell, and behind cells without a line
---     stop-forth               they stop at their first cell or behind it
+--     stop-forth, -most        they stop at their first cell or behind it, and not beyond the end of the cells
 --     stop-more                where there is a cell and room for a line, they go on
 --     text-in                  the lines that fit are those of the cells up to where they stop
 -- Assumes nothing.
@@ -84,6 +84,14 @@ module _ (line : ℕ → List ℕ) where
   stop-forth room from (suc count) = go (decLt room lineMost) (stop-forth (room - length (line from)) (from + 1) count)
     where
       go : Dec (room < lineMost) → from + 1 ≤ stopAt line (room - length (line from)) (from + 1) count → from ≤ stopAt line room from (suc count)
+      go (yes l) ih = rw (stop-here room from (suc count) l) (omega arith)
+      go (no l) ih = rw (stop-step room from count (omega arith)) (omega arith)
+
+  pub stop-most : (room from count : ℕ) → stopAt line room from count ≤ from + count
+  stop-most room from zero = rw (stop-end room from) (omega arith)
+  stop-most room from (suc count) = go (decLt room lineMost) (stop-most (room - length (line from)) (from + 1) count)
+    where
+      go : Dec (room < lineMost) → stopAt line (room - length (line from)) (from + 1) count ≤ from + 1 + count → stopAt line room from (suc count) ≤ from + suc count
       go (yes l) ih = rw (stop-here room from (suc count) l) (omega arith)
       go (no l) ih = rw (stop-step room from count (omega arith)) (omega arith)
 

@@ -5,16 +5,19 @@
 --     begun-usable     what `begin` says is left can be asked for: its grid is usable with the map
 --     whole-listing    the first line and all pieces from there on, whatever the lengths of the buffers, are the listing of the file
 --     largest-map      a map of 32,768 bytes is long enough for every file
+--     rooms-enough     rooms of a longest line reach the last cell, where there are as many as cells are left
+--     all-sent         so 262,144 of them send the listing of every file
+--     listing-sent     what they send is the listing, with no premise but the lengths of map and output
 -- Assumes nothing.
 use mathlib.Core.Bool.{Bool, true, false, cond}
 use mathlib.Core.List.{List, [], _∷_, _++_}
 use mathlib.Core.Path.{_≡_, refl, sym, ap, ap₂, _∙_, subst}
-use Prim.Native.Nat.{ℕ, _+_, _-_, _^_, _<_, _≤_}
+use Prim.Native.Nat.{ℕ, zero, suc, _+_, _-_, _^_, _<_, _≤_}
 use native.Mathlib.Decide.{decLt}
 use native.Mathlib.Omega.{arith}
-use borrow.Author.Tests.{lt-ltb, le-ltb, le-leb, ltb-true, eqb-true}
+use borrow.Author.Tests.{lt-ltb, le-ltb, le-leb, ltb-true, eqb-true, eq-eqb}
 use lib.Dec.{ltb}
-use lib.ListN.{length, take, drop, length-append}
+use lib.ListN.{length, take, drop, replicate, length-append}
 use lib.Seq.{take-append-seam}
 use Rattle.refusal.specs.Limit.{Answer, gives, refused}
 use Rattle.grid.specs.Grid.{cellCount}
@@ -30,7 +33,7 @@ use Rattle.text.specs.Text.{spliced}
 use Rattle.text.specs.Lines.{refusedLine, firstMost, lineMost}
 use Rattle.listing.specs.declared.Rest.{Rest}
 use Rattle.listing.specs.Listing.{cellLine, lineOf, linesFrom, firstLine, filledLines, listing, Start, more, allOf, begun, begunMap, begunBytes, refusalText, usable, pieceOf, restAfter, written, last, unusable, piece, pieces, reached, sent, allSent}
-use Rattle.listing.proofs.Lines.{lines-add, lines-same, stop-forth, stop-more, text-in}
+use Rattle.listing.proofs.Lines.{lines-add, lines-same, stop-forth, stop-most, stop-more, text-in}
 use Rattle.listing.proofs.Starts.{start-refused, start-short, start-put}
 use Rattle.listing.proofs.Usable.{most-cells}
 
@@ -89,6 +92,21 @@ module _ (m : List ℕ) where
       ap₂ _++_ (text-in (line r) room from (cellCount (r .grid) - from)) (pieces-lines left rooms ∙ ap (λ (n : ℕ). linesFrom (line r) n (end - next)) at)
       ∙ sym (lines-add (line r) from (next - from) (end - next))
       ∙ ap (linesFrom (line r) from) both
+
+  -- As many rooms of a longest line as there are cells left, or more, reach the last cell.
+  pub rooms-enough : (n : ℕ) (r : Rest) → r .from ≤ cellCount (r .grid) → cellCount (r .grid) ≤ r .from + n
+      → reached m r (replicate n lineMost) ≡ cellCount (r .grid)
+  unfolding reached
+  rooms-enough zero r l u = omega arith
+  rooms-enough (suc n) r l u =
+      let cells = cellCount (r .grid) in
+      let next = pieceOf m r lineMost .next in
+      let most : next ≤ cells = omega (arith, stop-most (line r) lineMost (r .from) (cells - r .from)) in
+      rooms-enough n (restAfter m r lineMost) most (passed (decLt (r .from) cells))
+    where
+      passed : Dec (r .from < cellCount (r .grid)) → cellCount (r .grid) ≤ pieceOf m r lineMost .next + n
+      passed (yes some) = omega (arith, next-cell r lineMost (omega arith) some)
+      passed (no none) = omega (arith, next-forth r lineMost)
 
 -- ---- an accepted file and a map that is long enough
 module _ (s m : List ℕ) (h : Header) (e : checked s ≡ gives h) (fits : mapLength (cellCount (h .grid)) ≤ length m) where
@@ -185,3 +203,18 @@ module _ (s m out rooms : List ℕ) (fits : MapFits s m) (long : firstMost ≤ l
       go : (r : Answer Header) → checked s ≡ r → Whole (begun s m out) (begunMap s m out) (begunBytes s m out)
       go (refused n p) e = let b = start-refused s m out (fill-refused s m e .0) in rw (← b .0, ← b .2) (file-refused n p e)
       go (gives h) e = let b = start-put s m out h e (fits h e) long in rw (← b .0, ← b .1, ← b .2) (file-passed h e)
+
+-- ---- and it is always sent: rooms of a longest line, as many as the largest grid has cells
+module _ (s m out : List ℕ) (fits : MapFits s m) (long : firstMost ≤ length out) (n : ℕ) (enough : 262144 ≤ n) where
+  pub all-sent : allSent (begun s m out) (begunMap s m out) (replicate n lineMost) ≡ true
+  all-sent = go (checked s) refl
+    where
+      go : (r : Answer Header) → checked s ≡ r → allSent (begun s m out) (begunMap s m out) (replicate n lineMost) ≡ true
+      go (refused k p) e = rw (← start-refused s m out (fill-refused s m e .0) .0)
+      go (gives h) e =
+          let b = start-put s m out h e (fits h e) long in
+          let most : cellCount (gridOf s) < 262145 = omega (arith, most-cells (length (filledBytes s m)) (gridOf s) (grid-usable s m h e (fits h e))) in
+          rw (← b .0, ← b .1, eq-eqb _ _ (rooms-enough (filledBytes s m) n (allOf (gridOf s)) (omega arith) (omega arith)))
+
+  pub listing-sent : sent (begun s m out) (begunMap s m out) (begunBytes s m out) (replicate n lineMost) ≡ listing s
+  listing-sent = whole-listing s m out (replicate n lineMost) fits long all-sent

@@ -1,5 +1,6 @@
 -- A point in common, where it has to be found: a leg that ends on a corner of a triangle has it in common with the triangle.
 --     common-at       weights of the leg and of the triangle that give one and the same point
+--     common-by       whatever weights satisfy the equations: nothing else is asked
 --     corner-common   an end that is a corner
 -- Assumes nothing.
 use mathlib.Core.List.{List, [], _∷_}
@@ -53,6 +54,21 @@ common-at {a} {b} {p} {t} u w = record {
         let V₀ = pos (w .w0 + w .w1 + w .w2) in
         let L = pos (u .l0 + u .l1) in
         record { same = ap (_*ℤ_ V₀) (u .sum c) ∙ exchange V₀ (c p) L ∙ ap (_*ℤ_ L) (sym (w .sum c)) }
+
+pub common-by : (a b : Point) (t : Triangle) (l0 l1 w0 w1 w2 : ℕ) → 0 < l0 + l1 → 0 < w0 + w1 + w2
+    → ((c : Axis) → pos (w0 + w1 + w2) *ℤ weightedSumLeg a b l0 l1 c ≡ pos (l0 + l1) *ℤ weightedSum t w0 w1 w2 c) → CommonPoint a b t
+common-by a b t l0 l1 w0 w1 w2 u v same = record {
+  l0 = l0;
+  l1 = l1;
+  w0 = w0;
+  w1 = w1;
+  w2 = w2;
+  some-leg = u;
+  some-triangle = v;
+  x = record { same = same xOf };
+  y = record { same = same yOf };
+  z = record { same = same zOf };
+}
 
 -- ---- ends and corners: all weight on one of them
 one : {x y : ℤ} {n : ℕ} → n ≡ 1 → x ≡ y → x ≡ y *ℤ pos n

@@ -4,3 +4,5 @@ pub mod Lowest
 pub mod Sizes
 -- What the call answers.
 pub mod Answers
+-- What the words about a bar say.
+pub mod Words

@@ -1,13 +1,14 @@
 -- A fill in steps. Begin, then ranges that have every record, in any order and as often as one likes, then end:
---     in-steps   the bytes and the answer are those of one fill
+--     in-steps     the bytes and the answer are those of one fill
+--     two-ranges   two ranges, one behind the other, have every record of both
 -- Assumes nothing.
 use mathlib.Core.Bool.{Bool, true, false, cond, _&&_, _||_, or-assoc, or-false, and-false, and-or-distrib-left, and-eq-true-iff}
 use mathlib.Core.List.{List, [], _∷_, _++_}
 use mathlib.Core.Path.{_≡_, refl, sym, ap, subst, _∙_}
 use Prim.Native.Nat.{ℕ, zero, suc, _+_, _-_, _<_, _≤_}
-use native.Mathlib.Decide.{ℕ-discrete}
+use native.Mathlib.Decide.{ℕ-discrete, decLt}
 use native.Mathlib.Omega.{arith}
-use borrow.Author.Tests.{ltb-true, leb-true}
+use borrow.Author.Tests.{ltb-true, leb-true, le-leb, lt-ltb, le-ltb}
 use lib.Dec.{leb, ltb}
 use lib.ListN.{length, drop, replicate}
 use Rattle.integers.proofs.Truth.{same-truth}
@@ -118,6 +119,15 @@ module _ (s : List ℕ) (n : ℕ) where
   covered rs all =
       same-truth (anyOf byRange rs) (filledIn s n) (ranges-file rs)
       (λ e. table-some fills (λ i. recordOf s i .triangle) total e (λ i l q. record-ranges i l q rs (all i l)))
+
+-- ---- ranges that have every record
+pub two-ranges : (n m i : ℕ) → i < n + m → isCovered (record { first = 0; count = n } ∷ record { first = n; count = m } ∷ []) i ≡ true
+unfolding anyOf
+two-ranges n m i l = go (decLt i n)
+  where
+    go : Dec (i < n) → isCovered (record { first = 0; count = n } ∷ record { first = n; count = m } ∷ []) i ≡ true
+    go (yes h) = rw (le-leb 0 i (omega arith), lt-ltb i (0 + n) (omega arith))
+    go (no h) = rw (le-leb 0 i (omega arith), le-ltb i (0 + n) (omega arith), le-leb n i (omega arith), lt-ltb i (n + m) l)
 
 -- ---- one range behind another
 module _ (cells : ℕ) where
