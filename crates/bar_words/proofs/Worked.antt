@@ -25,3 +25,11 @@ cell-0 = refl
 cell-8 : behind g 8 ≡ refused 16 0
 unfolding bitAt fieldAt signedAt headerIn reservedIn kindIn recordIn answered ofEach overlapsBox lowest behind
 cell-8 = refl
+
+-- the last cell of the largest grid, 64 × 64 × 64 cells with the edge 1 and no triangle
+abbrev largest : List ℕ
+largest = 0x1f ∷ 0xff ∷ 0xfc ∷ 0x04 ∷ 0x00 ∷ 0x00 ∷ 0x00 ∷ 0x00 ∷ 0x00 ∷ 0x00 ∷ 0x00 ∷ 0x00 ∷ []
+
+last-cell : behind largest 262143 ≡ gives clear
+unfolding bitAt fieldAt signedAt headerIn reservedIn kindIn recordIn answered ofEach overlapsBox lowest behind
+last-cell = refl

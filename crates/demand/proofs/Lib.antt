@@ -9,3 +9,4 @@ pub mod Reached
 -- Demand 3, whole.
 pub mod Demand
 pub mod Words
+pub mod Worked

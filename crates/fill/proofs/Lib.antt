@@ -5,3 +5,4 @@ mod Ready
 pub mod Answers
 -- What its words hold of.
 pub mod Words
+pub mod Worked

@@ -1,3 +1,4 @@
 pub mod Held
 pub mod Penned
 pub mod Rows
+pub mod Worked

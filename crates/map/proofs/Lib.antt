@@ -1,3 +1,4 @@
 pub mod Filled
 pub mod Counts
 pub mod Maps
+pub mod Worked

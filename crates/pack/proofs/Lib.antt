@@ -1,3 +1,4 @@
 pub mod Unpack
 pub mod Fitting
 pub mod File
+pub mod Worked

@@ -4,3 +4,5 @@ mod Numbers
 mod TooMany
 -- What the walks by hand share.
 mod Callees
+-- A worked example.
+pub mod Worked

@@ -4,8 +4,9 @@
 --     bar-lowest     the record is one of the file's, and no record before it reaches the cell
 --     clear-none     clear is said only where no record of the file reaches the cell
 --     cell-answered  of an accepted file no cell of the grid is refused
+--     said           what the answer's cases say
 -- Assumes nothing.
-use mathlib.Core.List.{List}
+use mathlib.Core.List.{List, [], _∷_}
 use mathlib.Core.Path.{_≡_, refl}
 use Prim.Native.Nat.{ℕ, _+_, _<_}
 use lib.IntN.{pos, natAbs}
@@ -19,7 +20,7 @@ use Rattle.frame.specs.File.{headerOf, recordOf}
 use Rattle.frame.specs.Questions.{checked}
 use Rattle.weights.specs.declared.Weights.{Weights}
 use Rattle.service.specs.declared.BarAnswer.the-variants.{Clear, Bar}
-use Rattle.service.specs.Bar.{behind, Shown}
+use Rattle.service.specs.Bar.{clear, bar, behind, saidBar, Shown}
 use Rattle.service.proofs.Answers.{finding, behind-found}
 
 module _ (s : List ℕ) (n : ℕ) where
@@ -57,3 +58,6 @@ module _ (s : List ℕ) (n : ℕ) where
 
   pub cell-answered : (h : Header) → checked s ≡ gives h → n < cellCount (h .grid) → behind s n ≡ gives (finding s n)
   cell-answered = behind-found s n
+
+pub said : (w : Weights) → (saidBar Clear ∷ saidBar (Bar 2 w) ∷ []) ≡ (gives clear ∷ gives (bar 2) ∷ [])
+said w = refl

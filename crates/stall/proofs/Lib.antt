@@ -4,3 +4,4 @@ mod Behind
 pub mod Unpack
 pub mod Fitting
 pub mod Answers
+pub mod Worked

@@ -4,3 +4,5 @@ mod Admitted
 pub mod Joined
 -- A fill in steps leaves and says what one fill does.
 pub mod Whole
+-- Worked examples.
+pub mod Worked

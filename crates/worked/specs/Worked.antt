@@ -5,6 +5,7 @@ use mathlib.Core.List.{List, [], _∷_, _++_}
 use Prim.Native.Nat.{ℕ}
 use Prim.Native.String.{String}
 use lib.IntN.{ℤ, pos}
+use lib.ListN.{length}
 use Rattle.geometry.specs.declared.Point.{Point}
 use Rattle.geometry.specs.Geometry.{point, triangle}
 use Rattle.layout.specs.declared.Header.{Header}
@@ -76,6 +77,15 @@ rows =
     ∷ row "i" (at 31 0 0) (at 0 31 0) (at 0 0 31)
     (0x00 ∷ 0x1f ∷ 0x00 ∷ 0x00 ∷ 0x00 ∷ 0x00 ∷ 0x00 ∷ 0x00 ∷ 0x1f ∷ 0x00 ∷ 0x00 ∷ 0x00 ∷ 0x00 ∷ 0x00 ∷ 0x00 ∷ 0x1f ∷ []) 7 0x7f []
     ∷ []
+
+-- The letters of the rows, and how many routes each has.
+abbrev pub letters : List Row → List String
+letters [] = []
+letters (r ∷ rs) = r .letter ∷ letters rs
+
+abbrev pub routeCounts : List Row → List ℕ
+routeCounts [] = []
+routeCounts (r ∷ rs) = length (r .routes) ∷ routeCounts rs
 
 -- The buffer that a fill is lent.
 abbrev buffer : List ℕ

@@ -1,3 +1,4 @@
 pub mod All
 pub mod Triangles
 pub mod Grids
+pub mod Worked
