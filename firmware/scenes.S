@@ -1,6 +1,6 @@
 /*
- * What is measured on, in flash: the example stall, and the scenes and routes that firmware/scenes.rs wrote. A thing NAME
- * has the bytes from NAME on and below NAME_end. Assembled from the root of the repository.
+ * What is measured on, in flash: the example stall, and the scenes and routes that `bench scenes` of rust/bench wrote. A
+ * thing NAME has the bytes from NAME on and below NAME_end. Assembled from the root of the repository.
  */
     .macro bytes name, file
     .global \name, \name\()_end

@@ -16,6 +16,7 @@
 //! bench time bar SCENE                print the microseconds of rattle and of records, of all cells of the scene
 //! bench stack                         print the greatest stack of a fill, a route test, a reading, a write, a bar, a scan
 //! bench check                         hold every peer to the documents as printed, and to the others
+//! bench scenes FOLDER                 write the frames and routes that firmware/measure measures on
 //! ```
 
 mod bar;
@@ -38,6 +39,7 @@ mod writing;
 use peers::{Fill, PEERS};
 use stall::Refusal;
 use std::hint::black_box;
+use std::path::Path;
 
 /// The greatest map, with some bytes behind it.
 const LENT: usize = stall::MAP_MOST + 64;
@@ -220,6 +222,20 @@ fn stacks() -> [usize; 6] {
     ]
 }
 
+/// Writes the frames and routes for the controller to a folder, in 64 × 64 × 64 cells: NAME.frame, and NAME.route with two
+/// bytes a number, the low one first.
+fn write_scenes(folder: &Path) {
+    let put = |name: String, bytes: Vec<u8>| std::fs::write(folder.join(name), bytes).unwrap();
+    for scene in scenes::SCENES.into_iter().chain(["sides", "whole"]) {
+        put(format!("{scene}.frame"), scenes::file(scene, 64));
+    }
+    for (shape, answer) in routes::ROUTES {
+        let (_, numbers) = routes::route(shape, answer);
+        let bytes = numbers.iter().flat_map(|x| x.to_le_bytes()).collect();
+        put(format!("{shape}-{answer}.route"), bytes);
+    }
+}
+
 /// Prints numbers in a line.
 fn print(numbers: &[impl std::fmt::Display]) {
     let words: Vec<String> = numbers.iter().map(ToString::to_string).collect();
@@ -242,6 +258,7 @@ fn main() {
             println!("{}", agree(&file, LENT).0.unwrap());
         }
         ["stack"] => print(&stacks()),
+        ["scenes", folder] => write_scenes(Path::new(folder)),
         ["time", "fill", scene, cells] => print(&time_fill(scene, cells.parse().unwrap())),
         ["time", "route", shape, answer] => print(&time_route(shape, answer)),
         ["time", "write"] => print(&time_write()),

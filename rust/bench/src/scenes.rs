@@ -63,7 +63,7 @@ pub fn grid(cells: usize) -> Grid {
     }
 }
 
-/// The scenes to fill. The rails at the sides are for routes.
+/// The scenes to fill. The rails at the sides are for routes, and the whole sections for the controller.
 pub const SCENES: [&str; 7] = [
     "rails", "plates", "small", "diagonal", "flat", "outside", "worst",
 ];
@@ -144,6 +144,17 @@ pub fn triangles(scene: &str) -> Vec<Triangle> {
                     let side = [LOW, HIGH][random.between(0, 1) as usize];
                     with(random.point(LOW, HIGH), random.between(0, 2) as usize, side)
                 })
+            })
+            .collect(),
+        // as many triangles as a file can hold, in the planes x = y and x = -y by turns. Each covers all of the plane's section
+        // with the grid: 64 × 64 columns of the finest. The planes pass through edges of cells, so that they touch three cells
+        // in nearly each column. Of some 20,000 triangles that were tried on the controller, by climbing from one to another
+        // that took more, none took more instructions by a hundredth
+        "whole" => (0..4095)
+            .map(|i| {
+                let sign = 1 - 2 * (i % 2);
+                [(-2000, -2000), (5800, -2000), (-2000, 5800)]
+                    .map(|(along, z)| [along, sign * along, z])
             })
             .collect(),
         _ => panic!("no scene {scene}"),
