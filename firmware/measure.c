@@ -1,6 +1,9 @@
 /*
  * Prints what the library's calls take on the controller, a line a call: its name, on what, instructions in thousands,
  * and what it answers, with '|' between them. firmware/measure makes a table of the lines. Then the stack of each call.
+ *
+ * With FOLLOWED the same calls are probed in the same order, for firmware/cycles to follow. A fill of the two files that take
+ * longest is then a step of their first 64 records: the whole of it has too many instructions to follow each.
  */
 #include <inttypes.h>
 #include <stdio.h>
@@ -63,8 +66,23 @@ static void say(const char *call, const char *of, uint64_t answer, const char *c
     }
 }
 
+/* Records from the first on, in a step. */
+static void step(const struct scene *s, uint64_t count)
+{
+    probe_begin();
+    uint64_t answer = stall_fill_some(s->file, length_of(s), map, sizeof map, 0, count);
+    probe_end(FILL_SOME);
+    say("stall_fill_some", s->name, answer, count == 1 ? "record" : "records");
+}
+
 static void fill(const struct scene *s)
 {
+#ifdef FOLLOWED
+    if (s->file == worst || s->file == whole) {
+        step(s, 64);
+        return;
+    }
+#endif
     memset(map, 0xff, sizeof map);
     probe_begin();
     uint64_t answer = stall_fill(s->file, length_of(s), map, sizeof map);
@@ -82,24 +100,16 @@ static void test_route(const struct route *r)
     say("stall_route", r->name, answer, "");
 }
 
-/* A step of the fill of the worst file, from its first record on. */
-static void step(uint64_t count)
-{
-    probe_begin();
-    uint64_t answer = stall_fill_some(WHOLE->file, length_of(WHOLE), map, sizeof map, 0, count);
-    probe_end(FILL_SOME);
-    say("stall_fill_some", WHOLE->name, answer, count == 1 ? "record" : "records");
-}
-
+/* The fill of the worst file in steps, but for the most of its records. */
 static void steps(void)
 {
     probe_begin();
     uint64_t answer = stall_fill_begin(WHOLE->file, length_of(WHOLE), map, sizeof map);
     probe_end(FILL_BEGIN);
     say("stall_fill_begin", WHOLE->name, answer, "records");
-    step(0);
-    step(1);
-    step(64);
+    step(WHOLE, 0);
+    step(WHOLE, 1);
+    step(WHOLE, 64);
     probe_begin();
     answer = stall_fill_end(WHOLE->file, length_of(WHOLE), map, sizeof map);
     probe_end(FILL_END);
