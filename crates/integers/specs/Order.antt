@@ -1,4 +1,4 @@
--- The lesser and the greater of two integers, and the quotient that is rounded down.
+-- The lesser and the greater of two integers. Definitions only.
 use mathlib.Core.Bool.{cond}
 use lib.IntN.{ℤ}
 use lib.Signed.{leZ}
