@@ -1,3 +1,5 @@
+-- Headers, worked.
+pub mod WorkedHeaders
 -- Texts, character by character.
 mod Texts
 -- Comments, from word to line feed.

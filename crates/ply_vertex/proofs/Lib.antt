@@ -1,2 +1,4 @@
+-- Vertices, worked.
+pub mod Worked
 pub mod Patterns
 pub mod Parts

@@ -6,7 +6,6 @@ pub mod Widened
 pub mod Half
 -- The outcome is the writer's, and reads back.
 pub mod Written
--- Floats, headers and a file, worked.
+-- Floats and a file, worked.
 pub mod WorkedRounding
-pub mod WorkedHeaders
 pub mod WorkedFile

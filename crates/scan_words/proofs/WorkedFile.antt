@@ -1,9 +1,10 @@
 -- A whole scanner's file, and others that are refused, by computation on the definitions.
 --     form, numbers              what is taken of it, and its triangle
+--     same-corner, no-faces      a face that has a vertex twice, and a file of ints with no faces
 --     written-length, written    the frame file that it becomes
 --     longer, shorter, many      13
---     vertex                     14
---     negative, large, four, second, no-corners    15
+--     vertex, wide-int           14
+--     negative, large, four, far, most-corners, second, no-corners    15
 --     vertex-first, no-edge, no-room, room-last    12, 11, and which refusal comes first
 -- Assumes nothing.
 use mathlib.Core.List.{List, [], _∷_, _++_}
@@ -23,10 +24,10 @@ use Rattle.frame_write.specs.Write.{concatBelow, writing, writtenBytes}
 use Rattle.ply_header.specs.declared.Scalar.the-variants.{Float, Double, Int}
 use Rattle.ply_header.specs.declared.Header.the-variants.{Taken}
 use Rattle.ply_header.specs.Text.{bytes}
+use Rattle.ply_header.proofs.WorkedHeaders.{header-parts}
 use Rattle.ply_vertex.specs.Vertex.{sizeOf, vertexAt, placed}
 use Rattle.ply.specs.Body.{vertexPlace, faceFrom, facePlace, taken, isIndex, goodFace, cornerOf, triangleAt}
 use Rattle.scan.specs.Scan.{triangles, scanned, scanning, scanBytes}
-use Rattle.scan_words.proofs.WorkedHeaders.{header-parts}
 
 -- What a file is computed by, all of it unfolded.
 parts : Unit {0}
@@ -90,6 +91,25 @@ pub numbers : scanned (file inside corners) ≡ gives triangle
 unfolding parts
 numbers = refl
 
+-- ---- other files that are taken
+-- corners may be the same vertex
+abbrev twice : List ℤ
+twice = pos 0 ∷ negℤ (pos 8192) ∷ pos 0 ∷ pos 1 ∷ pos 2 ∷ pos 0 ∷ negℤ (pos 7) ∷ pos 2 ∷ pos 0 ∷ negℤ (pos 7) ∷ []
+
+pub same-corner : scanned (file inside (face 3 (0x00 ∷ 0x00 ∷ 0x00 ∷ 0x00 ∷ []))) ≡ gives twice
+unfolding parts
+same-corner = refl
+
+-- two vertices of three ints each, 24 bytes in all, of which the last four differ; and no faces
+abbrev ints : (z : List ℕ) → List ℕ
+ints z =
+    bytes "ply\nformat binary_little_endian 1.0\nelement vertex 2\nproperty int x\nproperty int y\nproperty int z\nelement face 0\nproperty list uchar int vertex_indices\nend_header\n"
+    ++ replicate 20 0x00 ++ z
+
+pub no-faces : scanned (ints (replicate 4 0x00)) ≡ gives []
+unfolding parts
+no-faces = refl
+
 -- ---- the frame file, for 2 × 2 × 2 cells with this edge and origin 0: its length, and its bytes with the byte behind them
 abbrev grid : (edge : ℤ) → GridValues
 grid edge = record { nx = pos 2; ny = pos 2; nz = pos 2; edge = edge; x = pos 0; y = pos 0; z = pos 0 }
@@ -125,6 +145,11 @@ pub vertex : scanned (file no-number corners) ≡ refused 14 1
 unfolding parts
 vertex = refl
 
+-- 14: an int has 32 bits, and this one is 65,536
+pub wide-int : scanned (ints (0x00 ∷ 0x00 ∷ 0x01 ∷ 0x00 ∷ [])) ≡ refused 14 1
+unfolding parts
+wide-int = refl
+
 -- 15: the index -1, the index 3; and four corners in a body of the right length
 pub negative : scanned (file inside (face 3 minus-one)) ≡ refused 15 0
 unfolding parts
@@ -137,6 +162,16 @@ large = refl
 pub four : scanned (file inside (face 4 (replicate 8 0x00))) ≡ refused 15 0
 unfolding parts
 four = refl
+
+-- an index has 32 bits: this one is 65,536
+pub far : scanned (file inside (face 3 (0x00 ∷ 0x00 ∷ 0x01 ∷ 0x00 ∷ []))) ≡ refused 15 0
+unfolding parts
+far = refl
+
+-- 255 corners, in a body of the right length
+pub most-corners : scanned (file inside (face 255 (replicate 1012 0x00))) ≡ refused 15 0
+unfolding parts
+most-corners = refl
 
 -- the second face of two; and a face of no corners
 pub second : scanned (heading "3" "2" ++ body inside (corners ++ face 3 minus-one)) ≡ refused 15 1

@@ -31,6 +31,10 @@ x = "property float x\n"
 
 abbrev file : (first format vertex x : String) → List ℕ
 file a b c d = bytes a ++ bytes b ++ bytes c ++ bytes d ++ bytes "property double y\nproperty int z\nelement face 1\nproperty list uchar int vertex_indices\nend_header\n"
+
+-- a header whose last lines differ
+abbrev closed : (list : String) → List ℕ
+closed list = bytes first ++ bytes format ++ bytes vertex ++ bytes x ++ bytes "property double y\nproperty int z\nelement face 1\n" ++ bytes list ++ bytes "end_header\n"
 
 -- one vertex of a float, a double and an int, and one face; a count and the place of the body differ
 abbrev taken : (vertices body : ℕ) → Header
@@ -159,6 +163,23 @@ pub minus : header (file first format "element vertex -1\n" x) ≡ Other
 unfolding header-parts
 minus = refl
 
+-- the characters next to the digits
+pub slash : header (file first format "element vertex /\n" x) ≡ Other
+unfolding header-parts
+slash = refl
+
+pub colon : header (file first format "element vertex :\n" x) ≡ Other
+unfolding header-parts
+colon = refl
+
+pub slash-behind : header (file first format "element vertex 1/\n" x) ≡ Other
+unfolding header-parts
+slash-behind = refl
+
+pub colon-behind : header (file first format "element vertex 1:\n" x) ≡ Other
+unfolding header-parts
+colon-behind = refl
+
 -- a letter in a count
 pub hexadecimal : header (file first format "element vertex 0x1\n" x) ≡ Other
 unfolding header-parts
@@ -169,7 +190,39 @@ pub float32 : header (file first format vertex "property float32 x\n") ≡ Other
 unfolding header-parts
 float32 = refl
 
--- another scalar type
+pub float64 : header (file first format vertex "property float64 x\n") ≡ Other
+unfolding header-parts
+float64 = refl
+
+pub int32 : header (file first format vertex "property int32 x\n") ≡ Other
+unfolding header-parts
+int32 = refl
+
+-- other scalar types
+pub char : header (file first format vertex "property char x\n") ≡ Other
+unfolding header-parts
+char = refl
+
+pub uchar : header (file first format vertex "property uchar x\n") ≡ Other
+unfolding header-parts
+uchar = refl
+
+pub int8 : header (file first format vertex "property int8 x\n") ≡ Other
+unfolding header-parts
+int8 = refl
+
+pub uint8 : header (file first format vertex "property uint8 x\n") ≡ Other
+unfolding header-parts
+uint8 = refl
+
+pub short : header (file first format vertex "property short x\n") ≡ Other
+unfolding header-parts
+short = refl
+
+pub ushort : header (file first format vertex "property ushort x\n") ≡ Other
+unfolding header-parts
+ushort = refl
+
 pub uint : header (file first format vertex "property uint x\n") ≡ Other
 unfolding header-parts
 uint = refl
@@ -188,6 +241,15 @@ exchanged = refl
 pub another-property : header (file first format vertex "property float w\nproperty float x\n") ≡ Other
 unfolding header-parts
 another-property = refl
+
+-- the list of a face with types by their other names, and with its other name
+pub list-types : header (closed "property list uint8 int32 vertex_indices\n") ≡ Other
+unfolding header-parts
+list-types = refl
+
+pub list-name : header (closed "property list uchar int vertex_index\n") ≡ Other
+unfolding header-parts
+list-name = refl
 
 -- ---- the file ends
 -- before the first character
