@@ -8,3 +8,5 @@ mod Comments
 mod Counts
 -- The header by groups of lines.
 mod Groups
+-- A header that was written is read.
+pub mod Written

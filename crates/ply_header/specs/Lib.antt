@@ -1,4 +1,5 @@
 pub mod Text
 pub mod Header
+pub mod Format
 -- inner
 pub mod Inner

@@ -6,6 +6,9 @@ pub mod Widened
 pub mod Half
 -- The outcome is the writer's, and reads back.
 pub mod Written
+-- What a mesh is written to is read as that mesh.
+pub mod MeshBytes
+pub mod Mesh
 -- Floats and a file, worked.
 pub mod WorkedRounding
 pub mod WorkedFile

@@ -1,5 +1,6 @@
 -- A whole scanner's file, and others that are refused, by computation on the definitions.
 --     form, numbers              what is taken of it, and its triangle
+--     written-mesh               the mesh whose file it is
 --     same-corner, no-faces      a face that has a vertex twice, and a file of ints with no faces
 --     written-length, written    the frame file that it becomes
 --     longer, shorter, many      13
@@ -9,7 +10,7 @@
 -- Assumes nothing.
 use mathlib.Core.List.{List, [], _∷_, _++_}
 use mathlib.Core.Path.{_≡_, refl}
-use Prim.Native.Nat.{ℕ}
+use Prim.Native.Nat.{ℕ, zero, suc}
 use Prim.Native.String.{String}
 use lib.IntN.{ℤ, pos, negℤ}
 use lib.Ieee.{ofBits, ofInt}
@@ -17,6 +18,7 @@ use lib.ListN.{replicate}
 use Rattle.bits.specs.Field.{bytesOf}
 use Rattle.refusal.specs.Limit.{gives, refused}
 use Rattle.refusal.specs.Questions.{answered, ofEach}
+use Rattle.text.specs.Text.{digits, decimal}
 use Rattle.layout_write.specs.Writing.{headerBytes, recordBytes}
 use Rattle.writable.specs.Fits.{allBelow}
 use Rattle.frame_write.specs.declared.GridValues.{GridValues}
@@ -24,10 +26,12 @@ use Rattle.frame_write.specs.Write.{concatBelow, writing, writtenBytes}
 use Rattle.ply_header.specs.declared.Scalar.the-variants.{Float, Double, Int}
 use Rattle.ply_header.specs.declared.Header.the-variants.{Taken}
 use Rattle.ply_header.specs.Text.{bytes}
+use Rattle.ply_header.specs.Format.{headerText}
 use Rattle.ply_header.proofs.WorkedHeaders.{header-parts}
 use Rattle.ply_vertex.specs.Vertex.{sizeOf, vertexAt, placed}
 use Rattle.ply.specs.Body.{vertexPlace, faceFrom, facePlace, taken, isIndex, goodFace, cornerOf, triangleAt}
 use Rattle.scan.specs.Scan.{triangles, scanned, scanning, scanBytes}
+use Rattle.scan_words.specs.Mesh.{Three, Mesh, lowestFirst, meshFile}
 
 -- What a file is computed by, all of it unfolded.
 parts : Unit {0}
@@ -90,6 +94,19 @@ triangle = pos 0 ∷ negℤ (pos 8192) ∷ pos 0 ∷ pos 1 ∷ pos 2 ∷ pos 0 �
 pub numbers : scanned (file inside corners) ≡ gives triangle
 unfolding parts
 numbers = refl
+
+-- ---- it is the file of this mesh
+abbrev patterns : ℕ → Three
+patterns zero = record { first = 0x4020_0000; second = 0xbfe0_0000_0000_0000; third = 0xffff_fff9 }
+patterns (suc zero) = record { first = 0x45ff_fa00; second = 0x400c_0000_0000_0000; third = 100 }
+patterns (suc (suc k)) = record { first = 0xc600_0200; second = 0x3fdf_ffff_ffff_ffff; third = 1 }
+
+abbrev mesh : Mesh
+mesh = record { x = Float; y = Double; z = Int; vertices = 3; vertex = patterns; faces = 1; face = λ k. record { first = 2; second = 0; third = 1 } }
+
+pub written-mesh : meshFile mesh ≡ file inside corners
+unfolding headerText digits decimal lowestFirst concatBelow meshFile
+written-mesh = refl
 
 -- ---- other files that are taken
 -- corners may be the same vertex

@@ -1,1 +1,2 @@
 pub mod ScanWords
+pub mod Mesh
