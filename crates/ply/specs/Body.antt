@@ -31,6 +31,7 @@ unfoldable pub faceFrom : List ℕ → (at k : ℕ) → ℕ
 faceFrom s at zero = at
 faceFrom s at (suc k) = behindFace s (faceFrom s at k)
 
+-- Face k of a file.
 unfoldable pub facePlace : List ℕ → Form → ℕ → ℕ
 facePlace s f k = faceFrom s (vertexPlace f (f .vertices)) k
 
@@ -39,6 +40,7 @@ facePlace s f k = faceFrom s (vertexPlace f (f .vertices)) k
 abbrev pub bodyFits : List ℕ → Form → Bool
 bodyFits s f = eqb (facePlace s f (f .faces)) (length s)
 
+-- A header, where the file has at most 4,095 faces and its body the right length; else another form.
 abbrev pub bodied : List ℕ → Header → Header
 bodied s (Taken f) = cond (leb (f .faces) 4095 && bodyFits s f) (Taken f) Other
 bodied s Other = Other
@@ -48,6 +50,7 @@ unfoldable pub taken : List ℕ → Header
 taken s = bodied s (header s)
 
 -- ---- limit 14
+-- Vertex k of a file.
 abbrev pub vertexOf : List ℕ → Form → ℕ → Vertex
 vertexOf s f k = vertexAt s f (vertexPlace f k)
 

@@ -19,14 +19,14 @@ finite (inf s) = false
 finite (fin s m e) = true
 
 -- The number with this size, negative where s is true.
-abbrev pub signed : (s : Bool) → ℕ → ℤ
-signed true n = negℤ (pos n)
-signed false n = pos n
+abbrev pub signedBy : (s : Bool) → ℕ → ℤ
+signedBy true n = negℤ (pos n)
+signedBy false n = pos n
 
 abbrev pub scaled : Float → ℤ
 scaled nan = pos 0
 scaled (inf s) = pos 0
-scaled (fin s m e) = signed s (m * up e)
+scaled (fin s m e) = signedBy s (m * up e)
 
 abbrev pub unit : Float → ℕ
 unit nan = 1
@@ -43,7 +43,7 @@ pub record Nearest (x : ℤ) (d : ℕ) (r : ℤ) : Type 0 where
 abbrev pub wholeOf : Float → ℤ
 wholeOf nan = pos 0
 wholeOf (inf s) = pos 0
-wholeOf (fin s m e) = signed s (closest (m * up e) (down e))
+wholeOf (fin s m e) = signedBy s (closest (m * up e) (down e))
 
 -- From -8,192 to 8,191, as a coordinate of a frame file.
 abbrev pub inRange : ℤ → Bool

@@ -25,7 +25,7 @@ use Rattle.frame_write.proofs.Pieces.{pieces-same}
 use Rattle.ply_header.specs.declared.Form.{Form}
 use Rattle.ply_header.specs.declared.Header.the-variants.{Taken, Other}
 use Rattle.ply.specs.Body.{taken}
-use Rattle.scan.specs.Scan.{triangles, plyQuestions, scanned, gridFits, writingOf, bytesOf, scanning, scanBytes}
+use Rattle.scan.specs.Scan.{triangles, plyQuestions, scanned, gridFits, writingOf, scanLeaves, scanning, scanBytes}
 use Rattle.scan.specs.Inner.{scanQuestions, faceBytes}
 use Rattle.scan.proofs.Triangles.{count-is, whole-is, numbers-are, all-fit, grid-any}
 
@@ -40,7 +40,7 @@ module _ (g : GridValues) (s old : List ℕ) where
 
   module _ (fits : gridFits g ≡ true) where
     -- by what the scanner's file gives
-    by-file : {a : Answer (List ℤ)} {b : Answer ℕ} {new : List ℕ} → scanned s ≡ a → b ≡ writingOf g a (length old) → new ≡ bytesOf g a old → Promise g s old b new
+    by-file : {a : Answer (List ℤ)} {b : Answer ℕ} {new : List ℕ} → scanned s ≡ a → b ≡ writingOf g a (length old) → new ≡ scanLeaves g a old → Promise g s old b new
     unfolding scanning scanBytes
     by-file e p q = (rw (fits, e) p, rw (fits, e) q)
 

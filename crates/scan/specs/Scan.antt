@@ -23,11 +23,12 @@ triangles s f = concatBelow (λ k. triangleAt s f (facePlace s f k)) (f .faces)
 abbrev pub plyQuestions : List ℕ → Form → List Question
 plyQuestions s f = ofEach (vertexQuestion s f) (f .vertices) ++ ofEach (faceQuestion s f) (f .faces)
 
--- What it gives: its triangles, or 13 where it is not of the form, or the first "no".
+-- What it gives, by what is taken of it: its triangles, or 13 where it is not of the form, or the first "no".
 abbrev pub scannedAs : List ℕ → Header → Answer (List ℤ)
 scannedAs s (Taken f) = answered (plyQuestions s f) (triangles s f)
 scannedAs s Other = refused 13 0
 
+-- What a scanner's file gives.
 unfoldable pub scanned : List ℕ → Answer (List ℤ)
 scanned s = scannedAs s (taken s)
 
@@ -36,18 +37,20 @@ scanned s = scannedAs s (taken s)
 abbrev pub gridFits : GridValues → Bool
 gridFits g = headerFits version1 (headerToWrite g 0)
 
--- What the writer says of the triangles, if there are any.
+-- What the writer says of the triangles, where the file is not refused.
 abbrev pub writingOf : GridValues → Answer (List ℤ) → (room : ℕ) → Answer ℕ
 writingOf g (gives zs) room = writing g zs room
 writingOf g (refused n p) room = refused n p
 
-abbrev pub bytesOf : GridValues → Answer (List ℤ) → (out : List ℕ) → List ℕ
-bytesOf g (gives zs) out = writtenBytes g zs out
-bytesOf g (refused n p) out = out
+-- And what it leaves of the output; after a refusal it is as it was.
+abbrev pub scanLeaves : GridValues → Answer (List ℤ) → (out : List ℕ) → List ℕ
+scanLeaves g (gives zs) out = writtenBytes g zs out
+scanLeaves g (refused n p) out = out
 
--- The grid's values come first. The outcome is what the writer says and leaves of the file's triangles.
+-- What the call says: the grid's values come first, then the file, then what the writer says of its triangles.
 unfoldable pub scanning : GridValues → List ℕ → (room : ℕ) → Answer ℕ
 scanning g s room = cond (gridFits g) (writingOf g (scanned s) room) (refused 12 0)
 
+-- What the call leaves of the output.
 unfoldable pub scanBytes : GridValues → List ℕ → (out : List ℕ) → List ℕ
-scanBytes g s out = cond (gridFits g) (bytesOf g (scanned s) out) out
+scanBytes g s out = cond (gridFits g) (scanLeaves g (scanned s) out) out
