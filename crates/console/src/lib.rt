@@ -1,7 +1,35 @@
-// What the programs for people share: an answer goes to standard output; what else the command that runs them has to know
-// goes to standard error, in lines.
+// What the programs for people share: a file comes from standard input; an answer goes to standard output; what else the
+// command that runs them has to know goes to standard error, in lines.
 use libc::STDERR_FILENO;
+use libc::STDIN_FILENO;
 use libc::STDOUT_FILENO;
+ghost use Rattle.console.specs.Input.{Holds};
+
+// What was read: so many bytes, up to the end of the input or of the room for it; or a read failed.
+pub enum Input {
+    Whole(usize),
+    Failed,
+}
+
+// Reads standard input until it ends or buf is full. Where a read fails, it says UNREAD: what came before is no input.
+pub fn read_input(buf: &mut [u8]) -> Input
+    ensures { λ r. ⌜ Holds (now (buf .exit)) r ⌝ }
+{
+    let mut done: usize = 0;
+    while done < buf.len() {
+        let got = libc::read(STDIN_FILENO, &mut buf[done..]);
+        if got < 0 {
+            io::write_all(STDERR_FILENO, b"UNREAD\n");
+            return Input::Failed;
+        }
+        let more = io::count(got, buf);
+        if more == 0 {
+            break;
+        }
+        done += more;
+    }
+    Input::Whole(done)
+}
 
 // Writes the first len bytes to standard output, and answers whether all were taken. Where not, it says LOST.
 pub fn send(out: &[u8], len: usize) -> bool {

@@ -1,6 +1,6 @@
 // The map lister: a frame file from standard input, the listing of its map to standard output. The line of a refusal goes to
 // standard error too, for the command that runs it.
-use libc::STDIN_FILENO;
+use console::Input;
 use listing::Begun;
 use listing::Piece;
 use listing::Rest;
@@ -12,15 +12,24 @@ fn main() {
     let mut file = [0u8; 65533];
     let mut map = [0u8; 32768];
     let mut out = io::large_buffer();
-    list(&mut file, &mut map, &mut out);
+    answer(&mut file, &mut map, &mut out);
 }
 
-// Reads the file, and writes its listing. Nothing is written before the file is read and the map is filled.
-fn list(file: &mut [u8], map: &mut [u8], out: &mut [u8])
+// Reads the file, and lists it.
+fn answer(file: &mut [u8], map: &mut [u8], out: &mut [u8])
     requires { ⌜ 64 ≤ length (now out) ⌝ }
 {
-    let len = io::read_full(STDIN_FILENO, file);
-    match listing::begin(&file[..len], map, out) {
+    match console::read_input(file) {
+        Input::Whole(len) => list(&file[..len], map, out),
+        Input::Failed => {}
+    }
+}
+
+// Writes the listing of a file. Nothing is written before the map is filled.
+fn list(file: &[u8], map: &mut [u8], out: &mut [u8])
+    requires { ⌜ 64 ≤ length (now out) ⌝ }
+{
+    match listing::begin(file, map, out) {
         Begun::More(first, rest) => {
             if console::send(out, first) {
                 list_cells(map, rest, out);

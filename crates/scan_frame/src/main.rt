@@ -1,9 +1,9 @@
 // Writes a frame file from a scanner's file: that from standard input, the grid's seven values as arguments, the frame file to
 // standard output. What the command has to know goes to standard error: how much was written, or why nothing was. An argument
 // that is no number of 32 bits gives no file: its place goes to standard error.
+use console::Input;
 use frame_write::GridValues;
 use frame_write::Written;
-use libc::STDIN_FILENO;
 use parse::Word;
 use refusal::Limit;
 ghost use Prim.Native.Nat.{_≤_, _<_};
@@ -68,16 +68,25 @@ fn argument(place: usize) -> i64 {
     }
 }
 
-// Reads the scanner's file and writes the frame file, unless the scanner's is too long.
+// Reads the scanner's file, and writes the frame file.
 fn answer(ply: &mut [u8], grid: GridValues, out: &mut [u8])
     requires { ⌜ 64 ≤ length (now out) ⌝ }
 {
-    let len = io::read_full(STDIN_FILENO, ply);
-    if 1048576 < len {
+    match console::read_input(ply) {
+        Input::Whole(len) => read(&ply[..len], grid, out),
+        Input::Failed => {}
+    }
+}
+
+// Writes the frame file, unless the scanner's file is too long.
+fn read(ply: &[u8], grid: GridValues, out: &mut [u8])
+    requires { ⌜ 64 ≤ length (now out) ⌝ }
+{
+    if 1048576 < ply.len() {
         console::say(b"LONG\n", 5);
         return;
     }
-    write(&ply[..len], grid, out);
+    write(ply, grid, out);
 }
 
 // Writes the frame file, or says the limit that is broken. A header has 12 bytes, and a record 16.

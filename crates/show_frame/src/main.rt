@@ -1,8 +1,8 @@
 // Shows a frame file as text: the file from standard input, the text to standard output. What begins with # is for people.
 // The line of a refusal goes to standard error too, for the command that runs it.
+use console::Input;
 use frame::Checked;
 use layout::Header;
-use libc::STDIN_FILENO;
 ghost use mathlib.Core.Path.{_≡_};
 ghost use Prim.Native.Nat.{_≤_};
 ghost use lib.ListN.{length};
@@ -13,8 +13,17 @@ ghost use Rattle.frame.specs.Questions.{checked};
 fn main() {
     let mut file = [0u8; 65533];
     let mut out = io::large_buffer();
-    let len = io::read_full(STDIN_FILENO, &mut file);
-    show(&file[..len], &mut out);
+    answer(&mut file, &mut out);
+}
+
+// Reads the file, and shows it.
+fn answer(file: &mut [u8], out: &mut [u8])
+    requires { ⌜ 256 ≤ length (now out) ⌝ }
+{
+    match console::read_input(file) {
+        Input::Whole(len) => show(&file[..len], out),
+        Input::Failed => {}
+    }
 }
 
 // Shows a file, or the limit that it breaks.

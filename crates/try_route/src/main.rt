@@ -1,7 +1,7 @@
 // The route tester: a frame file from standard input, a route's numbers as arguments; the answer to standard output.
 // Where the route is blocked, the cell's place and box and the bar behind it go to standard error. An argument that is no
 // number of 16 bits gives no answer: its place goes to standard error.
-use libc::STDIN_FILENO;
+use console::Input;
 use parse::Word;
 use route::RouteAnswer;
 use service::BarAnswer;
@@ -68,15 +68,22 @@ fn argument(place: usize) -> i64 {
     }
 }
 
-// Reads the file, fills the map, tests the route of the first `count` numbers, and writes the answer. Where the file is refused,
-// the test says so too.
+// Reads the file, and tells of the route of the first `count` numbers.
 fn answer(file: &mut [u8], map: &mut [u8], numbers: &[i16], count: usize, out: &mut [u8])
     requires { ⌜ 512 ≤ length (now out) ⌝ }
 {
-    let len = io::read_full(STDIN_FILENO, file);
-    let read = &file[..len];
-    fill::fill(read, map);
-    match test(read, map, numbers, count) {
+    match console::read_input(file) {
+        Input::Whole(len) => tell(&file[..len], map, numbers, count, out),
+        Input::Failed => {}
+    }
+}
+
+// Fills the map, tests the route, and writes the answer. Where the file is refused, the test says so too.
+fn tell(file: &[u8], map: &mut [u8], numbers: &[i16], count: usize, out: &mut [u8])
+    requires { ⌜ 512 ≤ length (now out) ⌝ }
+{
+    fill::fill(file, map);
+    match test(file, map, numbers, count) {
         RouteAnswer::Free => {
             let line = text::put_free(out);
             console::send(out, line);
@@ -84,7 +91,7 @@ fn answer(file: &mut [u8], map: &mut [u8], numbers: &[i16], count: usize, out: &
         RouteAnswer::Blocked(leg, cell) => {
             let line = text::put_blocked(out, leg, cell);
             if console::send(out, line) {
-                say_bar(read, cell, out);
+                say_bar(file, cell, out);
             }
         }
         RouteAnswer::Refused(limit) => {

@@ -1,7 +1,7 @@
 // Writes a frame file from text: the text from standard input, the file to standard output. What the command has to know goes
 // to standard error: how much was written, or why nothing was.
+use console::Input;
 use frame_write::Written;
-use libc::STDIN_FILENO;
 use number_list::Listed;
 use refusal::Limit;
 ghost use Prim.Native.Nat.{_≤_};
@@ -21,22 +21,24 @@ fn lend(text: &mut [u8; 1048577]) {
     answer(text, &mut numbers, &mut out);
 }
 
-// Reads the text and writes the file, unless the text is too long.
+// Reads the text, and writes the file.
 fn answer(text: &mut [u8], numbers: &mut [i32], out: &mut [u8])
     requires { ⌜ (7 ≤ length (now numbers)) × (64 ≤ length (now out)) ⌝ }
 {
-    let len = io::read_full(STDIN_FILENO, text);
-    if 1048576 < len {
-        console::say(b"LONG\n", 5);
-        return;
+    match console::read_input(text) {
+        Input::Whole(len) => read(&text[..len], numbers, out),
+        Input::Failed => {}
     }
-    read(&text[..len], numbers, out);
 }
 
-// Writes the file of a text.
+// Writes the file of a text, unless the text is too long.
 fn read(text: &[u8], numbers: &mut [i32], out: &mut [u8])
     requires { ⌜ (7 ≤ length (now numbers)) × (64 ≤ length (now out)) ⌝ }
 {
+    if 1048576 < text.len() {
+        console::say(b"LONG\n", 5);
+        return;
+    }
     match number_list::read_list(text, numbers) {
         Listed::Numbers(n) => write(numbers, n, out),
         Listed::Wrong(line) => console::say_count(b"TEXT ", line),

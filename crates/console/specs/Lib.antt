@@ -1,0 +1,2 @@
+-- inner
+pub mod Input
