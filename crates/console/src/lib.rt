@@ -33,16 +33,7 @@ pub fn read_input(buf: &mut [u8]) -> Input
 
 // Writes the first len bytes to standard output, and answers whether all were taken. Where not, it says LOST.
 pub fn send(out: &[u8], len: usize) -> bool {
-    told(write(STDOUT_FILENO, out, len))
-}
-
-// The same of a number in base ten.
-pub fn send_number(n: usize) -> bool {
-    told(io::print_decimal(STDOUT_FILENO, n as u64))
-}
-
-// Says LOST where a write failed.
-fn told(taken: bool) -> bool {
+    let taken = write(STDOUT_FILENO, out, len);
     if !taken {
         io::write_all(STDERR_FILENO, b"LOST\n");
     }
@@ -71,6 +62,12 @@ pub fn say_count(word: &[u8], n: usize) {
     io::write_all(STDERR_FILENO, word);
     io::print_decimal(STDERR_FILENO, n as u64);
     io::write_all(STDERR_FILENO, b"\n");
+}
+
+// Says two numbers, behind what was said before them on the line.
+pub fn say_pair(a: usize, b: usize) {
+    io::print_decimal(STDERR_FILENO, a as u64);
+    say_count(b" ", b);
 }
 
 // Writes the first len bytes. No text has more bytes than its buffer.

@@ -3,15 +3,15 @@ use mathlib.Core.Bool.{cond}
 use mathlib.Core.List.{List, _∷_, _++_}
 use Prim.Native.Nat.{ℕ}
 use lib.Dec.{eqb}
-use lib.ListN.{take, drop}
+use lib.ListN.{drop}
 use Rattle.layout.specs.declared.Header.{Header}
 use Rattle.layout.specs.declared.Record.{Record}
 use Rattle.text.specs.Text.{spaced, lineFeed}
 use Rattle.numbers.specs.Numbers.{headerNumbers, recordNumbers}
 
--- The grid's values: of the header's numbers all but the first, the version, and the last, the count.
+-- The grid's values and the count of triangles: the header's numbers but the first, the version.
 abbrev pub gridLine : Header → List ℕ
-gridLine h = spaced (take 7 (drop 1 (headerNumbers h))) ++ lineFeed
+gridLine h = spaced (drop 1 (headerNumbers h)) ++ lineFeed
 
 -- A kind in words: "# frame", "# entry gate", "# exit gate"; any other "# unused".
 abbrev pub kindText : ℕ → List ℕ

@@ -1,4 +1,5 @@
-// A frame as text: a line with the grid's values, and a line a triangle, with the kind in words behind it.
+// A frame as text: a line with the grid's values and the count of triangles, and a line a triangle, with the kind in words
+// behind it.
 use layout::Header;
 use layout::Record;
 ghost use Prim.Native.Nat.{_+_, _≤_};
@@ -8,13 +9,13 @@ ghost use Rattle.numbers.specs.Numbers.{headerNumbers, recordNumbers};
 ghost use Rattle.numbers.specs.Inner.{Small};
 ghost use Rattle.frame_text.specs.Frame.{gridLine, kindText, recordLine};
 
-// Puts the grid's values at the start: the header's numbers but the version and the count.
+// Puts the grid's values and the count of triangles at the start: the header's numbers but the version.
 pub fn put_grid(out: &mut [u8], header: Header) -> usize
     requires { ⌜ Small (headerNumbers header) × (128 ≤ length (now out)) ⌝ }
     ensures { λ r. ⌜ Puts (now (out .entry)) 0 (gridLine header) (now (out .exit)) r ⌝ }
 {
     let numbers = numbers::header_numbers(header);
-    let behind = text::put_numbers(out, 0, &numbers[1..8]);
+    let behind = text::put_numbers(out, 0, &numbers[1..]);
     text::put_byte(out, behind, 10)
 }
 

@@ -43,12 +43,12 @@ fn show(file: &[u8], out: &mut [u8])
     }
 }
 
-// Shows the grid's values and how many triangles follow, and answers whether they were taken.
+// Shows the grid's values and the count of triangles, and answers whether they were taken.
 fn show_header(file: &[u8], header: Header, out: &mut [u8]) -> bool
     requires { ⌜ (checked (now file) ≡ gives header) × (256 ≤ length (now out)) ⌝ }
 {
     let grid =
-        b"# Cells along x, y and z; cell edge; origin x, y and z. Lengths are in millimetres.\n";
+        b"# Cells along x, y and z; cell edge; origin x, y and z; triangle count. Lengths are in millimetres.\n";
     if !console::send(grid, grid.len()) {
         return false;
     }
@@ -56,19 +56,8 @@ fn show_header(file: &[u8], header: Header, out: &mut [u8]) -> bool
     if !console::send(out, line) {
         return false;
     }
-    show_count(header.count)
-}
-
-// Shows how many triangles follow, and answers whether that was taken.
-fn show_count(count: usize) -> bool {
-    let behind = b". Of each: kind; x, y and z of three corners.\n";
-    if !console::send(b"# Triangles: ", 13) {
-        return false;
-    }
-    if !console::send_number(count) {
-        return false;
-    }
-    console::send(behind, behind.len())
+    let each = b"# Of each triangle: kind; x, y and z of three corners.\n";
+    console::send(each, each.len())
 }
 
 // Shows the records, one buffer after the other, until a write fails.

@@ -7,8 +7,10 @@ use lib.Seq.{length-take-le}
 use Rattle.write_frame.proofs.write.Statement.{statement}
 use Rattle.write_frame.proofs.write.Tie as tie
 
-part : (c : tie.Then2) → let a = c .before .before .before .args in length (take (a .n) (a .numbers .now)) ≡ a .n
-part c = let a = c .before .before .before .args in length-take-le (a .n) (a .numbers .now) (c .if2 .taken)
+part : (c : tie.Then3) → let a = c .before .before .before .before .before .before .before .args in length (take (a .n) (a .numbers .now)) ≡ a .n
+part c =
+    let a = c .before .before .before .before .before .before .before .args in
+    length-take-le (a .n) (a .numbers .now) (c .if3 .taken)
 
 pub write-spec : {M : Type 1} → statement M
 write-spec =
@@ -16,6 +18,12 @@ write-spec =
     (tie.spec
     (λ c. search needs)
     (λ c κs. search needs)
+    (λ c. search needs)
+    (λ c κs. search needs)
+    (λ c κs. search needs)
+    (λ c κs. search needs)
+    (λ c κs. search needs)
+    (λ c. search needs)
     (λ c. search needs)
     (λ c. sym (part (c .before)))
     (λ c κs. (rw (part (c .before .before)) (omega arith), omega arith))
