@@ -45,8 +45,7 @@ fn read(text: &[u8], numbers: &mut [i32], out: &mut [u8])
     }
 }
 
-// Writes the file of the text's n numbers, where they are as many as the eighth says. Of more than were lent all that were lent
-// are taken: the writer refuses them.
+// Writes the file of the text's n numbers, where they are as many as the eighth says.
 fn write(text: &[u8], numbers: &[i32], n: usize, out: &mut [u8])
     requires { ⌜ (8 ≤ length (now numbers)) × (64 ≤ length (now out)) ⌝ }
 {
@@ -59,11 +58,34 @@ fn write(text: &[u8], numbers: &[i32], n: usize, out: &mut [u8])
         say_miscount(numbers, found, last_line(text), out);
         return;
     }
+    if !is_ended(text) {
+        console::say_count(b"CUT ", last_line(text));
+        return;
+    }
+    write_numbers(numbers, n, out);
+}
+
+// Writes the file of the first n numbers. Of more than were lent all that were lent are taken: the writer refuses them.
+fn write_numbers(numbers: &[i32], n: usize, out: &mut [u8])
+    requires { ⌜ (8 ≤ n) × (8 ≤ length (now numbers)) × (64 ≤ length (now out)) ⌝ }
+{
     if n <= numbers.len() {
         write_frame(&numbers[..n], out);
         return;
     }
     write_frame(numbers, out);
+}
+
+// Has a text an end behind its last word, a space or a line feed? Else its last number may have been cut off.
+fn is_ended(text: &[u8]) -> bool {
+    if text.len() == 0 {
+        return true;
+    }
+    let last = text[text.len() - 1];
+    if last == 10 {
+        return true;
+    }
+    last == 32
 }
 
 // Are so many numbers those of `count` triangles? Each has ten.
