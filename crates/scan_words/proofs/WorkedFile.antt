@@ -1,6 +1,6 @@
 -- A whole scanner's file, and others that are refused, by computation on the definitions.
 --     form, numbers              what is taken of it, and its triangle
---     written-mesh               the mesh whose file it is
+--     written-mesh, scannable    the mesh whose file it is, and that it can be scanned
 --     same-corner, no-faces      a face that has a vertex twice, and a file of ints with no faces
 --     written-length, written    the frame file that it becomes
 --     longer, shorter, many      13
@@ -9,9 +9,10 @@
 --     vertex-first, no-edge, no-room, room-last    12, 11, and which refusal comes first
 -- Assumes nothing.
 use mathlib.Core.List.{List, [], _∷_, _++_}
-use mathlib.Core.Path.{_≡_, refl}
-use Prim.Native.Nat.{ℕ, zero, suc}
+use mathlib.Core.Path.{_≡_, refl, subst}
+use Prim.Native.Nat.{ℕ, zero, suc, _^_, _<_}
 use Prim.Native.String.{String}
+use native.Mathlib.Omega.{arith}
 use lib.IntN.{ℤ, pos, negℤ}
 use lib.Ieee.{ofBits, ofInt}
 use lib.ListN.{replicate}
@@ -23,15 +24,20 @@ use Rattle.layout_write.specs.Writing.{headerBytes, recordBytes}
 use Rattle.writable.specs.Fits.{allBelow}
 use Rattle.frame_write.specs.declared.GridValues.{GridValues}
 use Rattle.frame_write.specs.Write.{concatBelow, writing, writtenBytes}
+use Rattle.rounding.specs.declared.Rounded.the-variants.{Whole}
+use Rattle.rounding.specs.Rounding.{roundedOf, Says}
+use Rattle.rounding.proofs.Meaning.{says}
+use Rattle.ply_header.specs.declared.Scalar.{Scalar}
 use Rattle.ply_header.specs.declared.Scalar.the-variants.{Float, Double, Int}
 use Rattle.ply_header.specs.declared.Header.the-variants.{Taken}
 use Rattle.ply_header.specs.Text.{bytes}
 use Rattle.ply_header.specs.Format.{headerText}
 use Rattle.ply_header.proofs.WorkedHeaders.{header-parts}
 use Rattle.ply_vertex.specs.Vertex.{sizeOf, vertexAt, placed}
+use Rattle.ply.specs.declared.Corner.{Corner}
 use Rattle.ply.specs.Body.{vertexPlace, faceFrom, facePlace, taken, isIndex, goodFace, cornerOf, triangleAt}
 use Rattle.scan.specs.Scan.{triangles, scanned, scanning, scanBytes}
-use Rattle.scan_words.specs.Mesh.{Three, Mesh, lowestFirst, meshFile}
+use Rattle.scan_words.specs.Mesh.{Three, Mesh, bytesIn, lowestFirst, meshFile, valueOf, Meant, MeantVertex, Scannable}
 
 -- What a file is computed by, all of it unfolded.
 parts : Unit {0}
@@ -107,6 +113,24 @@ mesh = record { x = Float; y = Double; z = Int; vertices = 3; vertex = patterns;
 pub written-mesh : meshFile mesh ≡ file inside corners
 unfolding headerText digits decimal lowestFirst concatBelow meshFile
 written-mesh = refl
+
+-- with these whole corners it can be scanned
+abbrev rounded : ℕ → Corner
+rounded zero = record { x = pos 2; y = pos 0; z = negℤ (pos 7) }
+rounded (suc zero) = record { x = pos 8191; y = pos 4; z = pos 100 }
+rounded (suc (suc k)) = record { x = negℤ (pos 8192); y = pos 0; z = pos 1 }
+
+meant : (t : Scalar) (b : ℕ) {r : ℤ} → b < 256 ^ bytesIn t → roundedOf (valueOf t b) ≡ Whole r → Meant t b r
+meant t b n e = record { narrow = n; rounds = subst (Says (valueOf t b)) e (says (valueOf t b)) }
+
+each : (k : ℕ) → MeantVertex mesh k (rounded k)
+unfolding ofBits ofInt
+each zero = record { x = meant _ _ (omega arith) refl; y = meant _ _ (omega arith) refl; z = meant _ _ (omega arith) refl }
+each (suc zero) = record { x = meant _ _ (omega arith) refl; y = meant _ _ (omega arith) refl; z = meant _ _ (omega arith) refl }
+each (suc (suc k)) = record { x = meant _ _ (omega arith) refl; y = meant _ _ (omega arith) refl; z = meant _ _ (omega arith) refl }
+
+pub scannable : Scannable mesh rounded
+scannable = record { few = omega arith; indexed = omega arith; vertex = λ k h. each k; face = λ k h. record { first = omega arith; second = omega arith; third = omega arith } }
 
 -- ---- other files that are taken
 -- corners may be the same vertex
