@@ -4,7 +4,7 @@
 --     after-fill     so after an accepted fill demand 3 holds of every route test that is not refused, with no other premise
 --     meets-corner   a route whose leg ends on a corner of a triangle has a point in common with the triangles, whichever leg it is
 --     meets-by       so has one with a leg that has a point in common with one of them
---     free-none, free-apart, blocked-shares, blocked-first
+--     free-none, none-free, free-apart, blocked-shares, blocked-first
 --                    what a caller has of a contract that says `DemandOf` or `FirstOf`, in the words of `reach` alone
 --     reached-one    a leg reaches one filled cell first: the claim about the cell that is named holds of no other
 -- Assumes nothing.
@@ -66,6 +66,11 @@ module _ (s old : List ℕ) (count : ℕ) (ns : List ℤ) (r : Answer Finding) (
 
   pub free-none : r ≡ gives free → (m n : ℕ) → m < legCount (pointsOf ns) → n < cellCount (gridOf s) → LegAt m (cornerOf (gridOf s) n) → SteelAt (cornerOf (gridOf s) n) → ⊥
   free-none is m n l c leg steel = claim free is .exactly .0 refl m n (record { leg-in = l; cell-in = c; leg = leg; triangle = steel })
+
+  -- and back: where no leg and no triangle reach one cell, it is "free"
+  pub none-free : (f : Finding) → r ≡ gives f
+      → ((m n : ℕ) → m < legCount (pointsOf ns) → n < cellCount (gridOf s) → LegAt m (cornerOf (gridOf s) n) → SteelAt (cornerOf (gridOf s) n) → ⊥) → f ≡ free
+  none-free f is none = claim f is .exactly .1 (λ m n b. none m n (b .leg-in) (b .cell-in) (b .leg) (b .triangle))
 
   pub free-apart : r ≡ gives free → (m : ℕ) → m < legCount (pointsOf ns)
       → SomeOf (λ t. CommonPoint (pointAt (pointsOf ns) m) (pointAt (pointsOf ns) (m + 1)) t) (obstacles s) → ⊥
