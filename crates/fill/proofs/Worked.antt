@@ -20,6 +20,10 @@ pub short-map : filling nine (0xaa ∷ []) ≡ refused 8 0
 unfolding bitAt fieldAt signedAt headerIn reservedIn kindIn answered ofEach filling
 short-map = refl
 
+pub long-enough : filling nine (0xaa ∷ 0xbb ∷ []) ≡ gives 0
+unfolding bitAt fieldAt signedAt headerIn reservedIn kindIn answered ofEach tabulate countBelow obstacles anyOf filling
+long-enough = refl
+
 pub kept : filledBytes nine (0xaa ∷ []) ≡ (0xaa ∷ [])
 unfolding bitAt fieldAt signedAt headerIn reservedIn kindIn answered ofEach filling filledBytes
 kept = refl

@@ -6,7 +6,8 @@ use Prim.Native.Nat.{ℕ}
 use lib.IntN.{pos, negℤ}
 use lib.ListN.{take}
 use Rattle.bits.specs.Field.{bitAt, fieldAt, signedAt}
-use Rattle.geometry.specs.Geometry.{point}
+use Rattle.geometry.specs.declared.Point.{Point}
+use Rattle.geometry.specs.Geometry.{point, triangle}
 use Rattle.refusal.specs.Limit.{gives, refused}
 use Rattle.refusal.specs.Questions.{answered, ofEach}
 use Rattle.layout.specs.declared.Header.{Header}
@@ -90,9 +91,18 @@ last-record = refl
 abbrev values : Header
 values = record { version = 1; grid = record { nx = 2; ny = 2; nz = 2; edge = pos 10; origin = point (pos 0) (pos 0) (pos 0) }; count = 1 }
 
+abbrev five : Point
+five = point (pos 5) (pos 5) (pos 5)
+
 pub first-record : reading (one-header ++ a-record 0x40) 0 ≡ gives (withRecord values (recordOf (one-header ++ a-record 0x40) 0))
 unfolding bitAt fieldAt signedAt headerIn reservedIn recordIn kindIn answered ofEach reading
 first-record = refl
+
+-- of two records with the kinds 2 and 1 the second is read
+pub second-record : reading ((0x10 ∷ 0x41 ∷ 0x04 ∷ 0x28 ∷ 0x00 ∷ 0x00 ∷ 0x00 ∷ 0x00 ∷ 0x00 ∷ 0x00 ∷ 0x20 ∷ 0x00 ∷ []) ++ a-record 0x80 ++ a-record 0x40) 1
+    ≡ gives (withRecord (record { version = 1; grid = values .grid; count = 2 }) (record { kind = 1; triangle = triangle five five five }))
+unfolding bitAt fieldAt signedAt headerIn reservedIn recordIn kindIn answered ofEach reading
+second-record = refl
 
 pub no-second : reading (one-header ++ a-record 0x40) 1 ≡ gives (noRecord values)
 unfolding bitAt fieldAt signedAt headerIn reservedIn recordIn kindIn answered ofEach reading

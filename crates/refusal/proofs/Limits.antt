@@ -30,7 +30,8 @@ limitOf n p =
     (is n 12 Unwritable
     (is n 13 PlyForm
     (is n 14 (PlyVertex p)
-    (is n 15 (PlyFace p) CellOutside))))))))))))))
+    (is n 15 (PlyFace p)
+    (is n 16 CellOutside ShortHeader)))))))))))))))
 
 pub limit-back : (l : Limit) → limitOf (refusalOf l .number) (refusalOf l .place) ≡ l
 limit-back ShortHeader = refl
