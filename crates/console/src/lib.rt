@@ -3,24 +3,28 @@
 use libc::STDERR_FILENO;
 use libc::STDIN_FILENO;
 use libc::STDOUT_FILENO;
-ghost use Rattle.console.specs.Input.{Holds};
+ghost use Rattle.io.specs.Counts.{Counts};
 
-// What was read: so many bytes, up to the end of the input or of the room for it; or a read failed.
-pub enum Input {
-    Whole(usize),
-    Failed,
+// What was read: so many bytes at the start of the buffer, up to the end of the input or of the room for it. It is not whole
+// where a read failed.
+pub struct Input {
+    pub len: usize,
+    pub whole: bool,
 }
 
 // Reads standard input until it ends or buf is full. Where a read fails, it says UNREAD: what came before is no input.
 pub fn read_input(buf: &mut [u8]) -> Input
-    ensures { λ r. ⌜ Holds (now (buf .exit)) r ⌝ }
+    ensures { λ r. ⌜ Counts (r .len) (now (buf .exit)) ⌝ }
 {
     let mut done: usize = 0;
     while done < buf.len() {
         let got = libc::read(STDIN_FILENO, &mut buf[done..]);
         if got < 0 {
             io::write_all(STDERR_FILENO, b"UNREAD\n");
-            return Input::Failed;
+            return Input {
+                len: done,
+                whole: false,
+            };
         }
         let more = io::count(got, buf);
         if more == 0 {
@@ -28,7 +32,10 @@ pub fn read_input(buf: &mut [u8]) -> Input
         }
         done += more;
     }
-    Input::Whole(done)
+    Input {
+        len: done,
+        whole: true,
+    }
 }
 
 // Writes the first len bytes to standard output, and answers whether all were taken. Where not, it says LOST.

@@ -1,6 +1,5 @@
 // The map lister: a frame file from standard input, the listing of its map to standard output. The line of a refusal goes to
 // standard error too, for the command that runs it.
-use console::Input;
 use listing::Begun;
 use listing::Piece;
 use listing::Rest;
@@ -19,10 +18,12 @@ fn main() {
 fn answer(file: &mut [u8], map: &mut [u8], out: &mut [u8])
     requires { ⌜ 64 ≤ length (now out) ⌝ }
 {
-    match console::read_input(file) {
-        Input::Whole(len) => list(&file[..len], map, out),
-        Input::Failed => {}
+    let input = console::read_input(file);
+    if !input.whole {
+        return;
     }
+    let len = input.len;
+    list(&file[..len], map, out);
 }
 
 // Writes the listing of a file. Nothing is written before the map is filled.

@@ -1,7 +1,6 @@
 // Writes a frame file from a scanner's file: that from standard input, the grid's seven values as arguments, the frame file to
 // standard output. What the command has to know goes to standard error: how much was written, or why nothing was. An argument
 // that is no number of 32 bits gives no file: its place goes to standard error.
-use console::Input;
 use frame_write::GridValues;
 use frame_write::Written;
 use parse::Word;
@@ -72,10 +71,12 @@ fn argument(place: usize) -> i64 {
 fn answer(ply: &mut [u8], grid: GridValues, out: &mut [u8])
     requires { ⌜ 64 ≤ length (now out) ⌝ }
 {
-    match console::read_input(ply) {
-        Input::Whole(len) => read(&ply[..len], grid, out),
-        Input::Failed => {}
+    let input = console::read_input(ply);
+    if !input.whole {
+        return;
     }
+    let len = input.len;
+    read(&ply[..len], grid, out);
 }
 
 // Writes the frame file, unless the scanner's file is too long.

@@ -1,7 +1,6 @@
 // The bar behind a cell: a frame file from standard input, a cell's number as the one argument; the answer to standard
 // output. Where there is a bar, the cell's box, the triangle and a point of it in the cell go to standard error. An argument
 // that is no number of 32 bits gives no answer: its place goes to standard error.
-use console::Input;
 use parse::Word;
 use service::BarAnswer;
 ghost use Prim.Native.Nat.{_≤_};
@@ -48,10 +47,12 @@ fn cell_of(x: i64) -> Asked {
 fn answer(file: &mut [u8], cell: usize, out: &mut [u8])
     requires { ⌜ 512 ≤ length (now out) ⌝ }
 {
-    match console::read_input(file) {
-        Input::Whole(len) => tell(&file[..len], cell, out),
-        Input::Failed => {}
+    let input = console::read_input(file);
+    if !input.whole {
+        return;
     }
+    let len = input.len;
+    tell(&file[..len], cell, out);
 }
 
 // Looks for the bar behind the cell, and writes the answer.

@@ -1,6 +1,5 @@
 // Shows a frame file as text: the file from standard input, the text to standard output. What begins with # is for people.
 // The line of a refusal goes to standard error too, for the command that runs it.
-use console::Input;
 use frame::Checked;
 use layout::Header;
 ghost use mathlib.Core.Path.{_≡_};
@@ -20,10 +19,12 @@ fn main() {
 fn answer(file: &mut [u8], out: &mut [u8])
     requires { ⌜ 256 ≤ length (now out) ⌝ }
 {
-    match console::read_input(file) {
-        Input::Whole(len) => show(&file[..len], out),
-        Input::Failed => {}
+    let input = console::read_input(file);
+    if !input.whole {
+        return;
     }
+    let len = input.len;
+    show(&file[..len], out);
 }
 
 // Shows a file, or the limit that it breaks.

@@ -1,7 +1,6 @@
 // The route tester: a frame file from standard input, a route's numbers as arguments; the answer to standard output.
 // Where the route is blocked, the cell's place and box and the bar behind it go to standard error. An argument that is no
 // number of 16 bits gives no answer: its place goes to standard error.
-use console::Input;
 use parse::Word;
 use route::RouteAnswer;
 use service::BarAnswer;
@@ -72,10 +71,12 @@ fn argument(place: usize) -> i64 {
 fn answer(file: &mut [u8], map: &mut [u8], numbers: &[i16], count: usize, out: &mut [u8])
     requires { ⌜ 512 ≤ length (now out) ⌝ }
 {
-    match console::read_input(file) {
-        Input::Whole(len) => tell(&file[..len], map, numbers, count, out),
-        Input::Failed => {}
+    let input = console::read_input(file);
+    if !input.whole {
+        return;
     }
+    let len = input.len;
+    tell(&file[..len], map, numbers, count, out);
 }
 
 // Fills the map, tests the route, and writes the answer. Where the file is refused, the test says so too.

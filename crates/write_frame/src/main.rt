@@ -1,6 +1,5 @@
 // Writes a frame file from text: the text from standard input, the file to standard output. The text's eighth number says how
 // many triangles there are. What the command has to know goes to standard error: how much was written, or why nothing was.
-use console::Input;
 use frame_write::Written;
 use number_list::Listed;
 use refusal::Limit;
@@ -25,10 +24,12 @@ fn lend(text: &mut [u8; 1048577]) {
 fn answer(text: &mut [u8], numbers: &mut [i32], out: &mut [u8])
     requires { ⌜ (8 ≤ length (now numbers)) × (64 ≤ length (now out)) ⌝ }
 {
-    match console::read_input(text) {
-        Input::Whole(len) => read(&text[..len], numbers, out),
-        Input::Failed => {}
+    let input = console::read_input(text);
+    if !input.whole {
+        return;
     }
+    let len = input.len;
+    read(&text[..len], numbers, out);
 }
 
 // Writes the file of a text, unless the text is too long.

@@ -46,6 +46,9 @@ loop-less c = omega (arith, room (c .before))
 loop-again : tie.Need-loop-again Inv-loop μ-loop
 loop-again c = (omega (arith, room (c .before)), omega arith)
 
+returns : tie.Need-returns Inv-loop μ-loop
+returns c = (omega arith, sym (length-take-le _ _ (omega arith)))
+
 returns-2 : tie.Need-returns-2 Inv-loop μ-loop
 returns-2 c = (omega arith, sym (length-take-le _ _ (omega arith)))
 
@@ -66,7 +69,7 @@ read-input-spec =
     (λ c. search needs)
     (λ c κs. search needs)
     (λ c. search needs)
-    (λ c. search needs)
+    returns
     (λ c κs. search needs)
     add-done
     loop-less
