@@ -4,8 +4,8 @@
 --     same-corner, no-faces      a face that has a vertex twice, and a file of ints with no faces
 --     written-length, written    the frame file that it becomes
 --     longer, shorter, many      13
---     vertex, wide-int           14
---     negative, large, four, far, most-corners, second, no-corners    15
+--     vertex, wide-int, lowest-vertex    14
+--     negative, large, four, far, most-corners, second, lowest-face, no-corners    15
 --     vertex-first, no-edge, no-room, room-last    12, 11, and which refusal comes first
 -- Assumes nothing.
 use mathlib.Core.List.{List, [], _∷_, _++_}
@@ -141,13 +141,13 @@ pub same-corner : scanned (file inside (face 3 (0x00 ∷ 0x00 ∷ 0x00 ∷ 0x00 
 unfolding parts
 same-corner = refl
 
--- two vertices of three ints each, 24 bytes in all, of which the last four differ; and no faces
-abbrev ints : (z : List ℕ) → List ℕ
-ints z =
+-- two vertices of three ints each, 24 bytes in all, of which the first four and the last four differ; and no faces
+abbrev ints : (x z : List ℕ) → List ℕ
+ints x z =
     bytes "ply\nformat binary_little_endian 1.0\nelement vertex 2\nproperty int x\nproperty int y\nproperty int z\nelement face 0\nproperty list uchar int vertex_indices\nend_header\n"
-    ++ replicate 20 0x00 ++ z
+    ++ x ++ replicate 16 0x00 ++ z
 
-pub no-faces : scanned (ints (replicate 4 0x00)) ≡ gives []
+pub no-faces : scanned (ints (replicate 4 0x00) (replicate 4 0x00)) ≡ gives []
 unfolding parts
 no-faces = refl
 
@@ -186,10 +186,17 @@ pub vertex : scanned (file no-number corners) ≡ refused 14 1
 unfolding parts
 vertex = refl
 
--- 14: an int has 32 bits, and this one is 65,536
-pub wide-int : scanned (ints (0x00 ∷ 0x00 ∷ 0x01 ∷ 0x00 ∷ [])) ≡ refused 14 1
+-- 14: an int has 32 bits, and this one is 65,536; of two such the lower vertex is named
+abbrev wide : List ℕ
+wide = 0x00 ∷ 0x00 ∷ 0x01 ∷ 0x00 ∷ []
+
+pub wide-int : scanned (ints (replicate 4 0x00) wide) ≡ refused 14 1
 unfolding parts
 wide-int = refl
+
+pub lowest-vertex : scanned (ints wide wide) ≡ refused 14 0
+unfolding parts
+lowest-vertex = refl
 
 -- 15: the index -1, the index 3; and four corners in a body of the right length
 pub negative : scanned (file inside (face 3 minus-one)) ≡ refused 15 0
@@ -214,10 +221,14 @@ pub most-corners : scanned (file inside (face 255 (replicate 1012 0x00))) ≡ re
 unfolding parts
 most-corners = refl
 
--- the second face of two; and a face of no corners
+-- the second face of two; the first, where both are wrong; and a face of no corners
 pub second : scanned (heading "3" "2" ++ body inside (corners ++ face 3 minus-one)) ≡ refused 15 1
 unfolding parts
 second = refl
+
+pub lowest-face : scanned (heading "3" "2" ++ body inside (face 3 minus-one ++ face 3 minus-one)) ≡ refused 15 0
+unfolding parts
+lowest-face = refl
 
 pub no-corners : scanned (file inside (0x00 ∷ [])) ≡ refused 15 0
 unfolding parts
