@@ -4,16 +4,16 @@ ghost use Rattle.std.specs.Prelude.{◌≡◌, ◌+◌, ◌*◌, ◌^◌, ◌<�
 ghost use Rattle.integers.specs.Within.{Within};
 ghost use Rattle.geometry.specs.Bounds.{TriangleWithin};
 ghost use Rattle.refusal.specs.Limit.{gives};
-ghost use Rattle.grid.specs.Grid.{cellCount};
+ghost use Rattle.grid.specs.Grid.{cell_count};
 ghost use Rattle.grid.specs.Usable.{GridWithin};
-ghost use Rattle.frame.specs.File.{headerOf, recordOf};
-ghost use Rattle.text.specs.Lines.{firstMost};
+ghost use Rattle.frame.specs.File.{header_of, record_of};
+ghost use Rattle.text.specs.Lines.{first_most};
 ghost use Rattle.text.specs.Inner.{Puts};
-ghost use Rattle.numbers.specs.Numbers.{recordNumbers};
+ghost use Rattle.numbers.specs.Numbers.{record_numbers};
 ghost use Rattle.numbers.specs.Inner.{Small};
 ghost use Rattle.service.specs.declared.BarAnswer.TheVariants.{Bar};
 ghost use Rattle.service.specs.Bar.{bar, behind, Shown};
-ghost use Rattle.bar_line.specs.Line.{clearLine, barLine, thousandths, total, pointNumbers, steelLine, pointLine, behindLines};
+ghost use Rattle.bar_line.specs.Line.{clear_line, bar_line, thousandths, total, point_numbers, steel_line, point_line, behind_lines};
 ghost use Rattle.bar_line.specs.Inner.{FewWeights};
 
 use frame::Reading;
@@ -24,16 +24,16 @@ use weights::Weights;
 
 // Puts "CLEAR" at the start.
 pub fn put_clear(out: &mut [u8]) -> usize
-    requires { firstMost ≤ length out.old }
-    ensures { Puts out.old 0 clearLine out.new result }
+    requires { first_most ≤ length out.old }
+    ensures { Puts out.old 0 clear_line out.new result }
 {
     text::put_word(out, 0, b"CLEAR\n")
 }
 
 // Puts "BAR i" at the start.
 pub fn put_bar(out: &mut [u8], i: usize) -> usize
-    requires { firstMost ≤ length out.old }
-    ensures { Puts out.old 0 (barLine i) out.new result }
+    requires { first_most ≤ length out.old }
+    ensures { Puts out.old 0 (bar_line i) out.new result }
 {
     let number = text::put_word(out, 0, b"BAR ");
     let behind = text::put_number(out, number, i);
@@ -44,7 +44,7 @@ pub fn put_bar(out: &mut [u8], i: usize) -> usize
 // gives them. So the file is never refused, and has the record.
 pub fn put_behind(out: &mut [u8], file: &[u8], cell: usize, i: usize, w: Weights) -> usize
     requires { (behind file.now cell ≡ gives (bar i)) × Shown file.now cell (Bar i w) × (512 ≤ length out.old) }
-    ensures { Puts out.old 0 (behindLines (headerOf file.now).grid cell i (recordOf file.now i) w) out.new result }
+    ensures { Puts out.old 0 (behind_lines (header_of file.now).grid cell i (record_of file.now i) w) out.new result }
 {
     match frame::read(file, i) {
         Reading::Found(header, rec) => put_lines(out, header.grid, cell, i, rec, w),
@@ -55,8 +55,8 @@ pub fn put_behind(out: &mut [u8], file: &[u8], cell: usize, i: usize, w: Weights
 
 // Puts the lines of a cell of a grid, and of record i.
 fn put_lines(out: &mut [u8], g: Grid, cell: usize, i: usize, rec: Record, w: Weights) -> usize
-    requires { GridWithin (2 ^ 13) (2 ^ 8) g × (cell < cellCount g) × Small (recordNumbers rec) × TriangleWithin (2 ^ 13) rec.triangle × FewWeights w × (512 ≤ length out.old) }
-    ensures { Puts out.old 0 (behindLines g cell i rec w) out.new result }
+    requires { GridWithin (2 ^ 13) (2 ^ 8) g × (cell < cell_count g) × Small (record_numbers rec) × TriangleWithin (2 ^ 13) rec.triangle × FewWeights w × (512 ≤ length out.old) }
+    ensures { Puts out.old 0 (behind_lines g cell i rec w) out.new result }
 {
     let steel = cell_line::put_cell(out, g, cell);
     let point = put_steel(out, steel, i, rec);
@@ -65,8 +65,8 @@ fn put_lines(out: &mut [u8], g: Grid, cell: usize, i: usize, rec: Record, w: Wei
 
 // Puts "STEEL i" and the record.
 fn put_steel(out: &mut [u8], at: usize, i: usize, rec: Record) -> usize
-    requires { Small (recordNumbers rec) × (at + 163 ≤ length out.old) }
-    ensures { Puts out.old at (steelLine i rec) out.new result × (result ≤ at + 163) }
+    requires { Small (record_numbers rec) × (at + 163 ≤ length out.old) }
+    ensures { Puts out.old at (steel_line i rec) out.new result × (result ≤ at + 163) }
 {
     let number = text::put_word(out, at, b"STEEL ");
     let behind = text::put_number(out, number, i);
@@ -77,7 +77,7 @@ fn put_steel(out: &mut [u8], at: usize, i: usize, rec: Record) -> usize
 // Puts "POINT" and the weighted point of a triangle, in thousandths of a millimetre.
 fn put_point(out: &mut [u8], at: usize, t: Triangle, w: Weights) -> usize
     requires { TriangleWithin (2 ^ 13) t × FewWeights w × (at + 43 ≤ length out.old) }
-    ensures { Puts out.old at (pointLine t w) out.new result }
+    ensures { Puts out.old at (point_line t w) out.new result }
 {
     let first = text::put_word(out, at, b"POINT ");
     let numbers = weighted_point(t, w);
@@ -88,7 +88,7 @@ fn put_point(out: &mut [u8], at: usize, t: Triangle, w: Weights) -> usize
 // The weighted point of a triangle, in thousandths.
 fn weighted_point(t: Triangle, w: Weights) -> [i32; 3]
     requires { TriangleWithin (2 ^ 13) t × FewWeights w }
-    ensures { result ≡ pointNumbers t w }
+    ensures { result ≡ point_numbers t w }
 {
     let v0 = t.v0;
     let v1 = t.v1;

@@ -8,24 +8,24 @@ use mathlib.Core.Path.{◌≡◌, refl, ap, ap₂, ◌∙◌}
 use Prim.Native.Nat.{ℕ, zero, suc, ◌<◌}
 use Rattle.refusal.specs.Limit.{gives}
 use Rattle.refusal.proofs.Asking.{asked-given}
-use Rattle.grid.specs.Grid.{latticeOf}
-use Rattle.overlap.specs.Cells.{overlapsCell}
-use Rattle.map.specs.Map.{isFilled, tabulate}
-use Rattle.frame.specs.File.{headerOf, recordOf}
-use Rattle.fill.specs.Fill.{any_of, obstacles, filledIn, filling, filledBytes}
+use Rattle.grid.specs.Grid.{lattice_of}
+use Rattle.overlap.specs.Cells.{overlaps_cell}
+use Rattle.map.specs.Map.{is_filled, tabulate}
+use Rattle.frame.specs.File.{header_of, record_of}
+use Rattle.fill.specs.Fill.{any_of, obstacles, filled_in, filling, filled_bytes}
 use Rattle.fill.proofs.Triangles.{any_append}
 use Rattle.fill.proofs.Words.{rule-filled}
-use Rattle.service.specs.Bar.{BehindCell, clear, bar, lowest, barQuestions, behind}
+use Rattle.service.specs.Bar.{BehindCell, clear, bar, lowest, bar_questions, behind}
 use Rattle.service.proofs.Answers.{finding, behind-given}
-use Rattle.bar_words.specs.Inner.{isBar}
+use Rattle.bar_words.specs.Inner.{is_bar}
 
 -- one record more
-more : (f : BehindCell) (b : Bool) (n : ℕ) → (isBar f || b) ≡ isBar (elim f [ bar i ↦ bar i | clear ↦ cond b (bar n) clear ])
+more : (f : BehindCell) (b : Bool) (n : ℕ) → (is_bar f || b) ≡ is_bar (elim f [ bar i ↦ bar i | clear ↦ cond b (bar n) clear ])
 more (bar i) b n = refl
 more clear true n = refl
 more clear false n = refl
 
-any-lowest : {A : Type 0} (p : A → Bool) (f : ℕ → A) (n : ℕ) → any_of p (tabulate f n) ≡ isBar (lowest (λ i. p (f i)) n)
+any-lowest : {A : Type 0} (p : A → Bool) (f : ℕ → A) (n : ℕ) → any_of p (tabulate f n) ≡ is_bar (lowest (λ i. p (f i)) n)
 unfolding any_of tabulate lowest
 any-lowest p f zero = refl
 any-lowest p f (suc n) =
@@ -34,12 +34,12 @@ any-lowest p f (suc n) =
     ∙ more (lowest (λ i. p (f i)) n) (p (f n)) n
 
 module _ (s : List ℕ) (n : ℕ) {b : BehindCell} (e : behind s n ≡ gives b) where
-  pub behind-filled : filledIn s n ≡ isBar b
+  pub behind-filled : filled_in s n ≡ is_bar b
   unfolding obstacles behind
   behind-filled =
-      let g = (headerOf s).grid in
-      any-lowest (λ t. overlapsCell g (latticeOf g) t n) (λ i. (recordOf s i).triangle) (headerOf s).count
-      ∙ ap isBar (asked-given (finding s n) (barQuestions s n) e).1
+      let g = (header_of s).grid in
+      any-lowest (λ t. overlaps_cell g (lattice_of g) t n) (λ i. (record_of s i).triangle) (header_of s).count
+      ∙ ap is_bar (asked-given (finding s n) (bar_questions s n) e).1
 
-  pub behind-map : (m : List ℕ) (count : ℕ) → filling s m ≡ gives count → isFilled (filledBytes s m) n ≡ isBar b
+  pub behind-map : (m : List ℕ) (count : ℕ) → filling s m ≡ gives count → is_filled (filled_bytes s m) n ≡ is_bar b
   behind-map m count f = rule-filled s m count f n (behind-given s n e).1 ∙ behind-filled

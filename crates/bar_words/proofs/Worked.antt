@@ -3,11 +3,11 @@
 use mathlib.Core.List.{List, [], ◌∷◌}
 use mathlib.Core.Path.{◌≡◌, refl}
 use Prim.Native.Nat.{ℕ}
-use Rattle.bits.specs.Field.{bit_at, field_at, signedAt}
+use Rattle.bits.specs.Field.{bit_at, field_at, signed_at}
 use Rattle.refusal.specs.Limit.{gives, refused}
-use Rattle.refusal.specs.Questions.{answered, ofEach}
-use Rattle.overlap.specs.Rule.{overlapsBox}
-use Rattle.layout.specs.Values.{headerIn, reservedIn, kindIn, recordIn}
+use Rattle.refusal.specs.Questions.{answered, of_each}
+use Rattle.overlap.specs.Rule.{overlaps_box}
+use Rattle.layout.specs.Values.{header_in, reserved_in, kind_in, record_in}
 use Rattle.service.specs.Bar.{clear, bar, lowest, behind}
 
 abbrev g : List ℕ
@@ -15,15 +15,15 @@ g = 0x10 ∷ 0x41 ∷ 0x04 ∷ 0x28 ∷ 0x00 ∷ 0x00 ∷ 0x00 ∷ 0x00 ∷ 0x00
 
 -- a filled cell, an empty one, and a number that no cell has
 cell-3 : behind g 3 ≡ gives (bar 0)
-unfolding bit_at field_at signedAt headerIn reservedIn kindIn recordIn answered ofEach overlapsBox lowest behind
+unfolding bit_at field_at signed_at header_in reserved_in kind_in record_in answered of_each overlaps_box lowest behind
 cell-3 = refl
 
 cell-0 : behind g 0 ≡ gives clear
-unfolding bit_at field_at signedAt headerIn reservedIn kindIn recordIn answered ofEach overlapsBox lowest behind
+unfolding bit_at field_at signed_at header_in reserved_in kind_in record_in answered of_each overlaps_box lowest behind
 cell-0 = refl
 
 cell-8 : behind g 8 ≡ refused 16 0
-unfolding bit_at field_at signedAt headerIn reservedIn kindIn recordIn answered ofEach overlapsBox lowest behind
+unfolding bit_at field_at signed_at header_in reserved_in kind_in record_in answered of_each overlaps_box lowest behind
 cell-8 = refl
 
 -- the last cell of the largest grid, 64 × 64 × 64 cells with the edge 1 and no triangle
@@ -31,5 +31,5 @@ abbrev largest : List ℕ
 largest = 0x1f ∷ 0xff ∷ 0xfc ∷ 0x04 ∷ 0x00 ∷ 0x00 ∷ 0x00 ∷ 0x00 ∷ 0x00 ∷ 0x00 ∷ 0x00 ∷ 0x00 ∷ []
 
 last-cell : behind largest 262143 ≡ gives clear
-unfolding bit_at field_at signedAt headerIn reservedIn kindIn recordIn answered ofEach overlapsBox lowest behind
+unfolding bit_at field_at signed_at header_in reserved_in kind_in record_in answered of_each overlaps_box lowest behind
 last-cell = refl

@@ -2,6 +2,6 @@
 use Rattle.std.specs.Prelude.{Bool, true, false}
 use Rattle.service.specs.Bar.{BehindCell, clear, bar}
 
-abbrev pub isBar : BehindCell → Bool
-isBar clear = false
-isBar (bar i) = true
+abbrev pub is_bar : BehindCell → Bool
+is_bar clear = false
+is_bar (bar i) = true

@@ -15,7 +15,7 @@ use lib.Pow.{pow_pos, pow-add, shl_exact, shr_lt, split, pow_mono}
 use lib.Seq.{get_or-set_same, get_or-set_other, drop-set-lt, drop-drop, take-suc}
 use Rattle.bits.specs.declared.Pen.{Pen}
 use Rattle.bits.specs.Field.{bit_at, field_at, bytes_of}
-use Rattle.bits.specs.Inner.{penBits, penNumber, Room}
+use Rattle.bits.specs.Inner.{pen_bits, pen_number, Room}
 use Rattle.bits.proofs.Fields.{field-split, byte-field, one_shl}
 
 pub field-same : (s t : List ℕ) (n : ℕ) → ((j : ℕ) → j < n → get_or s j 0 ≡ get_or t j 0) → (p w : ℕ) → p + w ≤ n * 8 → field_at s p w ≡ field_at t p w
@@ -42,10 +42,10 @@ join-lt a b j w h k = rw (pow-add 2 j w) (omega (arith, add-mul 1 a (2 ^ w), mul
 
 -- ---- the whole bytes go out
 pub record Turn (N K : ℕ) (old out : List ℕ) (p : Pen) : Type 0 where
-  pub grown : penBits p ≡ K
+  pub grown : pen_bits p ≡ K
   pub wide : p.bits < 33
   pub small : p.held < 2 ^ p.bits
-  pub holds : penNumber out p ≡ N
+  pub holds : pen_number out p ≡ N
   pub behind : drop p.at out ≡ drop p.at old
   pub same : length out ≡ length old
   pub room : K ≤ length old * 8
@@ -59,7 +59,7 @@ module _ {s : List ℕ} {p : Pen} {w v : ℕ} (r : Room s p w) (fit : v < 2 ^ w)
       rw shifted
       (omega (arith, join-lt p.held v p.bits w r.tidy.small fit, pow_mono {i = p.bits + w} {j = 33} (omega (arith, r.tidy.few, r.narrow))))
 
-  pub begins : Turn (penNumber s p * 2 ^ w + v) (penBits p + w) s s (record { at = p.at; bits = p.bits + w; held = p.held * 2 ^ w % 2 ^ 64 + v })
+  pub begins : Turn (pen_number s p * 2 ^ w + v) (pen_bits p + w) s s (record { at = p.at; bits = p.bits + w; held = p.held * 2 ^ w % 2 ^ 64 + v })
   begins =
       let n = field_at s 0 (p.at * 8) in
       record {

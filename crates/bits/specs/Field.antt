@@ -11,17 +11,17 @@ field_at s p zero = 0
 field_at s p (suc w) = field_at s p w * 2 + bit_at s (p + w)
 
 -- An unsigned number of w bits, taken as two's complement: from half of 2 ^ w on it stands for itself less 2 ^ w.
-abbrev pub twosComplement : ℕ → ℕ → ℤ
-twosComplement w n = cond (ltb n (2 ^ (w - 1))) (pos n) (pos n -ℤ pos (2 ^ w))
+abbrev pub twos_complement : ℕ → ℕ → ℤ
+twos_complement w n = cond (ltb n (2 ^ (w - 1))) (pos n) (pos n -ℤ pos (2 ^ w))
 
 -- The w bits from bit p on, as a signed number.
-unfoldable pub signedAt : List ℕ → ℕ → ℕ → ℤ
-signedAt s p w = twosComplement w (field_at s p w)
+unfoldable pub signed_at : List ℕ → ℕ → ℕ → ℤ
+signed_at s p w = twos_complement w (field_at s p w)
 
 -- ---- writing
 -- A whole number as an unsigned one of w bits, in two's complement: below 0 it is stored as itself plus 2 ^ w.
-abbrev pub complementOf : ℕ → ℤ → ℕ
-complementOf w z = nat_abs (z +ℤ pos (2 ^ w)) % 2 ^ w
+abbrev pub complement_of : ℕ → ℤ → ℕ
+complement_of w z = nat_abs (z +ℤ pos (2 ^ w)) % 2 ^ w
 
 -- The n bytes of a number, the most significant first.
 unfoldable pub bytes_of : (n number : ℕ) → List ℕ

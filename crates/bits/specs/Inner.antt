@@ -4,7 +4,7 @@ use Rattle.bits.specs.declared.Cursor.{Cursor}
 use Rattle.bits.specs.declared.Field.{Field}
 use Rattle.bits.specs.declared.Pen.{Pen}
 use Rattle.bits.specs.declared.SignedField.{SignedField}
-use Rattle.bits.specs.Field.{field_at, signedAt}
+use Rattle.bits.specs.Field.{field_at, signed_at}
 
 -- What a cursor answers of a field of w bits: its value, and the cursor behind it.
 pub record Taken (s : List ℕ) (c : Cursor) (w : ℕ) (r : Field) : Type 0 where
@@ -12,16 +12,16 @@ pub record Taken (s : List ℕ) (c : Cursor) (w : ℕ) (r : Field) : Type 0 wher
   pub next : r.next.at ≡ c.at + w
 
 pub record TakenSigned (s : List ℕ) (c : Cursor) (w : ℕ) (r : SignedField) : Type 0 where
-  pub value : r.value ≡ signedAt s c.at w
+  pub value : r.value ≡ signed_at s c.at w
   pub next : r.next.at ≡ c.at + w
 
 -- ---- a pen
 -- How many bits a pen has written, and these bits as one number: those of the whole bytes, then those that it holds back.
-abbrev pub penBits : Pen → ℕ
-penBits p = p.at * 8 + p.bits
+abbrev pub pen_bits : Pen → ℕ
+pen_bits p = p.at * 8 + p.bits
 
-abbrev pub penNumber : List ℕ → Pen → ℕ
-penNumber s p = field_at s 0 (p.at * 8) * 2 ^ p.bits + p.held
+abbrev pub pen_number : List ℕ → Pen → ℕ
+pen_number s p = field_at s 0 (p.at * 8) * 2 ^ p.bits + p.held
 
 -- A pen holds back less than a byte.
 pub record Tidy (p : Pen) : Type 0 where
@@ -32,12 +32,12 @@ pub record Tidy (p : Pen) : Type 0 where
 pub record Room (s : List ℕ) (p : Pen) (w : ℕ) : Type 0 where
   pub tidy : Tidy p
   pub narrow : w ≤ 25
-  pub room : penBits p + w ≤ length s * 8
+  pub room : pen_bits p + w ≤ length s * 8
 
 -- w bits, as the number v, have been put behind a pen: the bytes behind them are as they were.
 pub record Put (old : List ℕ) (p : Pen) (w v : ℕ) (new : List ℕ) (r : Pen) : Type 0 where
   pub tidy : Tidy r
-  pub grown : penBits r ≡ penBits p + w
-  pub holds : penNumber new r ≡ penNumber old p * 2 ^ w + v
+  pub grown : pen_bits r ≡ pen_bits p + w
+  pub holds : pen_number new r ≡ pen_number old p * 2 ^ w + v
   pub behind : drop r.at new ≡ drop r.at old
   pub same : length new ≡ length old

@@ -3,7 +3,7 @@
 // A field that is read may run over the end of the slice: the bits there are 0.
 ghost use Rattle.std.specs.Prelude.{◌≡◌, ◌+◌, ◌-◌, ◌*◌, ◌/◌, ◌%◌, ◌<◌, ◌≤◌, ◌^◌, get_or, length};
 ghost use Rattle.integers.specs.Within.{Within};
-ghost use Rattle.bits.specs.Field.{field_at, twosComplement, complementOf};
+ghost use Rattle.bits.specs.Field.{field_at, twos_complement, complement_of};
 ghost use Rattle.bits.specs.Inner.{Taken, TakenSigned, Room, Put};
 
 // A position in a string of bits, counted from the first byte's highest bit.
@@ -124,7 +124,7 @@ fn byte_at(s: &[u8], i: usize) -> u32
 // The number that `width` bits stand for as two's complement.
 fn sign_extend(n: u32, width: usize) -> i64
     requires { (1 ≤ width) × (width ≤ 25) × (n < 2 ^ width) }
-    ensures { result ≡ twosComplement width n }
+    ensures { result ≡ twos_complement width n }
 {
     let half = 1u32 << (width - 1);
     if n < half {
@@ -179,7 +179,7 @@ impl Pen {
     // Puts a signed field of `width` bits.
     pub fn put_signed(self, out: &mut [u8], width: usize, value: i64) -> Pen
         requires { Room out.old self width × (1 ≤ width) × Within (2 ^ width) value }
-        ensures { Put out.old self width (complementOf width value) out.new result }
+        ensures { Put out.old self width (complement_of width value) out.new result }
     {
         self.put(out, width, complement(value, width))
     }
@@ -188,7 +188,7 @@ impl Pen {
 // A number as an unsigned one of `width` bits, in two's complement. No branch: a sign costs no more than none.
 fn complement(x: i64, width: usize) -> u64
     requires { (width ≤ 25) × Within (2 ^ width) x }
-    ensures { (result ≡ complementOf width x) × (result < 2 ^ width) }
+    ensures { (result ≡ complement_of width x) × (result < 2 ^ width) }
 {
     let whole = 1u64 << width;
     (x + whole as i64) as u64 % whole

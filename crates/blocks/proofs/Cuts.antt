@@ -20,7 +20,7 @@ use Rattle.pending.proofs.Laws.{fewer}
 use Rattle.columns.specs.Draw.{range}
 use Rattle.columns.specs.Column.{RowsIn}
 use Rattle.blocks.specs.declared.Block.{Block}
-use Rattle.blocks.specs.Block.{uRange, vRange, width_of, isSmall, SomeCells, BlockIn, SmallerPart, Halved}
+use Rattle.blocks.specs.Block.{u_range, v_range, width_of, is_small, SomeCells, BlockIn, SmallerPart, Halved}
 
 -- ---- a range
 pub rows : {n : ℕ} {r : CellRange} → SomeCells n r → RowsIn r n
@@ -90,12 +90,12 @@ long {a} m h = go (dec_lt 1 a)
     go (yes d) = d
     go (no d) = let o : a ≤ 1 = omega arith in let p = mul-le-mul o (le_trans h o) in omega arith
 
-module _ (b : Block) (e : isSmall b ≡ false) where
-  many : 64 < width_of (uRange b) * width_of (vRange b)
-  many = leb-false (width_of (uRange b) * width_of (vRange b)) 64 e
+module _ (b : Block) (e : is_small b ≡ false) where
+  many : 64 < width_of (u_range b) * width_of (v_range b)
+  many = leb-false (width_of (u_range b) * width_of (v_range b)) 64 e
 
-  pub long-u : width_of (vRange b) ≤ width_of (uRange b) → 1 < width_of (uRange b)
+  pub long-u : width_of (v_range b) ≤ width_of (u_range b) → 1 < width_of (u_range b)
   long-u h = long many h
 
-  pub long-v : width_of (uRange b) < width_of (vRange b) → 1 < width_of (vRange b)
-  long-v h = long (rw (mul_comm (width_of (vRange b)) (width_of (uRange b))) many) (le_of_lt h)
+  pub long-v : width_of (u_range b) < width_of (v_range b) → 1 < width_of (v_range b)
+  long-v h = long (rw (mul_comm (width_of (v_range b)) (width_of (u_range b))) many) (le_of_lt h)

@@ -19,11 +19,11 @@ use Rattle.forms.specs.Form.{edge_at}
 use Rattle.runs.proofs.Narrow.{in-range}
 use Rattle.columns.specs.declared.Strides.{Strides}
 use Rattle.columns.specs.Draw.{drawn}
-use Rattle.columns.specs.Column.{value_at, columnPasses, cellPasses}
+use Rattle.columns.specs.Column.{value_at, column_passes, cell_passes}
 use Rattle.columns.proofs.Drawing.{nothing}
 use Rattle.columns.proofs.Cells.{cell-fails}
 use Rattle.blocks.specs.declared.Block.{Block}
-use Rattle.blocks.specs.Block.{uRange, vRange, columnsOf, farEnd, farValue, keptBy}
+use Rattle.blocks.specs.Block.{u_range, v_range, columns_of, far_end, far_value, kept_by}
 
 -- ---- the far end of a range
 pub before : (n : ℕ) → 0 < n → pos n -ℤ pos 1 ≡ pos (n - 1)
@@ -40,7 +40,7 @@ module _ (a : ℤ) (first end i : ℕ) (from : first ≤ i) (to : i < end) where
       last : pos i ≤ℤ (pos end -ℤ pos 1)
       last = rw (before end (omega arith)) (pos-le (omega arith))
 
-  pub far : (a *ℤ pos i) ≤ℤ (a *ℤ farEnd a first end)
+  pub far : (a *ℤ pos i) ≤ℤ (a *ℤ far_end a first end)
   far = go (lt_z a (pos 0)) refl
     where
       go : (t : Bool) → lt_z a (pos 0) ≡ t → (a *ℤ pos i) ≤ℤ (a *ℤ cond t (pos first) (pos end -ℤ pos 1))
@@ -48,32 +48,32 @@ module _ (a : ℤ) (first end i : ℕ) (from : first ≤ i) (to : i < end) where
       go false e = rising (lt-false a (pos 0) e)
 
 -- ---- a column of a block
-module _ (l : List ℤ) (b : Block) (i j : ℕ) (inside : columnsOf b i j ≡ true) where
-  below : (m : ℕ) → value_at l m i j ≤ℤ farValue l m b
+module _ (l : List ℤ) (b : Block) (i j : ℕ) (inside : columns_of b i j ≡ true) where
+  below : (m : ℕ) → value_at l m i j ≤ℤ far_value l m b
   below m =
       let f = (edge_at l m).uv in
-      let (hu, hv) = (and-eq-true_iff (in_range (uRange b) i) (in_range (vRange b) j)).0 inside in
-      let (u0, u1) = in-range (uRange b) i hu in
-      let (v0, v1) = in-range (vRange b) j hv in
+      let (hu, hv) = (and-eq-true_iff (in_range (u_range b) i) (in_range (v_range b) j)).0 inside in
+      let (u0, u1) = in-range (u_range b) i hu in
+      let (v0, v1) = in-range (v_range b) j hv in
       ≤-add (≤-add (far f.a b.u0 b.u1 i u0 u1) (far f.b b.v0 b.v1 j v0 v1)) (≤ℤ_refl f.c)
 
   -- a value that is not negative is not below the far value
-  more : (m : ℕ) → le_z (pos 0) (value_at l m i j) ≡ true → le_z (pos 0) (farValue l m b) ≡ true
-  more m e = true-le (pos 0) (farValue l m b) (≤_trans (le-true (pos 0) (value_at l m i j) e) (below m))
+  more : (m : ℕ) → le_z (pos 0) (value_at l m i j) ≡ true → le_z (pos 0) (far_value l m b) ≡ true
+  more m e = true-le (pos 0) (far_value l m b) (≤_trans (le-true (pos 0) (value_at l m i j) e) (below m))
 
-  kept : columnPasses l i j ≡ true → keptBy l b ≡ true
-  unfolding keptBy
+  kept : column_passes l i j ≡ true → kept_by l b ≡ true
+  unfolding kept_by
   kept e =
       let (e01, e2) = (and-eq-true_iff (le_z (pos 0) (value_at l 0 i j) && le_z (pos 0) (value_at l 1 i j)) (le_z (pos 0) (value_at l 2 i j))).0 e in
       let (e0, e1) = (and-eq-true_iff (le_z (pos 0) (value_at l 0 i j)) (le_z (pos 0) (value_at l 1 i j))).0 e01 in
       λ d. more 0 e0 d && more 1 e1 d && more 2 e2 d
 
-  fails : keptBy l b ≡ false → columnPasses l i j ≡ false
-  fails e = go (columnPasses l i j) refl
+  fails : kept_by l b ≡ false → column_passes l i j ≡ false
+  fails e = go (column_passes l i j) refl
     where
-      go : (t : Bool) → columnPasses l i j ≡ t → t ≡ false
+      go : (t : Bool) → column_passes l i j ≡ t → t ≡ false
       go true p = absurd (false≢true (sym e ∙ kept p))
       go false p = refl
 
-pub ruled_out : (g : Strides) (l : List ℤ) (w : CellRange) (b : Block) → keptBy l b ≡ false → (n : ℕ) → drawn g (columnsOf b) (cellPasses l w) n ≡ false
-ruled_out g l w b e = nothing g (columnsOf b) (cellPasses l w) (λ i j k h. cell-fails l w i j (fails l b i j h e) k)
+pub ruled_out : (g : Strides) (l : List ℤ) (w : CellRange) (b : Block) → kept_by l b ≡ false → (n : ℕ) → drawn g (columns_of b) (cell_passes l w) n ≡ false
+ruled_out g l w b e = nothing g (columns_of b) (cell_passes l w) (λ i j k h. cell-fails l w i j (fails l b i j h e) k)

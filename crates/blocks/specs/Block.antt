@@ -4,31 +4,31 @@ use Rattle.std.specs.Int.Signed.{lt_z}
 use Rattle.grid.specs.declared.BoxRange.{BoxRange}
 use Rattle.grid.specs.declared.CellRange.{CellRange}
 use Rattle.forms.specs.Form.{edge_at, BoundedForms}
-use Rattle.column_rule.specs.Column.{uvOf, squarePasses}
+use Rattle.column_rule.specs.Column.{uv_of, square_passes}
 use Rattle.pending.specs.Pending.{halvings}
 use Rattle.columns.specs.declared.Strides.{Strides}
 use Rattle.columns.specs.Draw.{Numbers, cells_of, range, rectangle}
 use Rattle.blocks.specs.declared.Block.{Block}
 
 -- ---- a block: its ranges on the two axes, and its columns
-abbrev pub uRange : Block → CellRange
-uRange b = range b.u0 b.u1
+abbrev pub u_range : Block → CellRange
+u_range b = range b.u0 b.u1
 
-abbrev pub vRange : Block → CellRange
-vRange b = range b.v0 b.v1
+abbrev pub v_range : Block → CellRange
+v_range b = range b.v0 b.v1
 
-abbrev pub columnsOf : Block → ℕ → ℕ → Bool
-columnsOf b = rectangle (uRange b) (vRange b)
+abbrev pub columns_of : Block → ℕ → ℕ → Bool
+columns_of b = rectangle (u_range b) (v_range b)
 
 -- How many columns a range has; the block has at most 64; how many halvings lead from it to single columns, at most.
 abbrev pub width_of : CellRange → ℕ
 width_of r = r.end - r.first
 
-abbrev pub isSmall : Block → Bool
-isSmall b = leb (width_of (uRange b) * width_of (vRange b)) 64
+abbrev pub is_small : Block → Bool
+is_small b = leb (width_of (u_range b) * width_of (v_range b)) 64
 
 abbrev pub depth_of : Block → ℕ
-depth_of b = halvings (width_of (uRange b)) + halvings (width_of (vRange b))
+depth_of b = halvings (width_of (u_range b)) + halvings (width_of (v_range b))
 
 -- A range that is not empty, of an axis with n cells. A block of such ranges.
 pub record SomeCells (n : ℕ) (r : CellRange) : Type 0 where
@@ -36,8 +36,8 @@ pub record SomeCells (n : ℕ) (r : CellRange) : Type 0 where
   pub most : r.end ≤ n
 
 pub record BlockIn (nu nv : ℕ) (b : Block) : Type 0 where
-  pub u : SomeCells nu (uRange b)
-  pub v : SomeCells nv (vRange b)
+  pub u : SomeCells nu (u_range b)
+  pub v : SomeCells nv (v_range b)
 
 -- ---- a block cut in two
 -- p is a part of the block b that fewer halvings cut into columns.
@@ -49,19 +49,19 @@ pub record SmallerPart (b p : Block) : Type 0 where
 pub record Halved (b low high : Block) : Type 0 where
   pub low_part : SmallerPart b low
   pub high_part : SmallerPart b high
-  pub both : (i j : ℕ) → columnsOf b i j ≡ (columnsOf low i j || columnsOf high i j)
+  pub both : (i j : ℕ) → columns_of b i j ≡ (columns_of low i j || columns_of high i j)
 
 -- ---- a block that an edge rules out
 -- The cell of a range from `first` on and below `end` at which a × i is greatest; the greatest value of edge m's form of uv in the block; no edge is negative
 -- there.
-abbrev pub farEnd : ℤ → (first end : ℕ) → ℤ
-farEnd a first end = cond (lt_z a (pos 0)) (pos first) (pos end -ℤ pos 1)
+abbrev pub far_end : ℤ → (first end : ℕ) → ℤ
+far_end a first end = cond (lt_z a (pos 0)) (pos first) (pos end -ℤ pos 1)
 
-abbrev pub farValue : List ℤ → ℕ → Block → ℤ
-farValue l m b = uvOf (edge_at l m) (farEnd (edge_at l m).uv.a b.u0 b.u1) (farEnd (edge_at l m).uv.b b.v0 b.v1)
+abbrev pub far_value : List ℤ → ℕ → Block → ℤ
+far_value l m b = uv_of (edge_at l m) (far_end (edge_at l m).uv.a b.u0 b.u1) (far_end (edge_at l m).uv.b b.v0 b.v1)
 
-unfoldable pub keptBy : List ℤ → Block → Bool
-keptBy l b = squarePasses (farValue l 0 b) (farValue l 1 b) (farValue l 2 b)
+unfoldable pub kept_by : List ℤ → Block → Bool
+kept_by l b = square_passes (far_value l 0 b) (far_value l 1 b) (far_value l 2 b)
 
 -- ---- what a fill asks: the forms, the grid's numbers, room in the map, and a box of cells in the grid, which is not empty
 pub record BoxReady (l : List ℤ) (g : Strides) (bytes : ℕ) (b : BoxRange) : Type 0 where

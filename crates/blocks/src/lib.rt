@@ -3,12 +3,12 @@
 ghost use Rattle.std.specs.Prelude.{◌≡◌, false, ◌+◌, ◌/◌, ◌<◌, ◌≤◌, pos, length};
 ghost use Rattle.std.specs.Int.Signed.{lt_z};
 ghost use Rattle.integers.specs.Within.{Within};
-ghost use Rattle.geometry.specs.Bounds.{indexMax};
+ghost use Rattle.geometry.specs.Bounds.{index_max};
 ghost use Rattle.map.specs.Map.{bit};
 ghost use Rattle.forms.specs.Form.{edge_at, BoundedForm, BoundedForms};
 ghost use Rattle.columns.specs.Draw.{Draws, rectangle};
-ghost use Rattle.columns.specs.Column.{cellPasses, ColumnsReady};
-ghost use Rattle.blocks.specs.Block.{uRange, vRange, columnsOf, isSmall, BlockIn, BoxReady, Halved, farEnd, farValue, keptBy};
+ghost use Rattle.columns.specs.Column.{cell_passes, ColumnsReady};
+ghost use Rattle.blocks.specs.Block.{u_range, v_range, columns_of, is_small, BlockIn, BoxReady, Halved, far_end, far_value, kept_by};
 
 use columns::Strides;
 use grid::{BoxRange, CellRange};
@@ -33,7 +33,7 @@ struct Halves {
 // Fills the columns of a box of cells, its axes turned so that the columns run along z.
 pub fn fill_columns(map: &mut [u8], forms: &[i64; 35], g: Strides, b: BoxRange)
     requires { BoxReady forms.now g (length map.old) b }
-    ensures { Draws g (rectangle b.x b.y) (cellPasses forms.now b.z) map.old map.new }
+    ensures { Draws g (rectangle b.x b.y) (cell_passes forms.now b.z) map.old map.new }
 {
     let x = b.x;
     let y = b.y;
@@ -55,7 +55,7 @@ pub fn fill_columns(map: &mut [u8], forms: &[i64; 35], g: Strides, b: BoxRange)
 // halvings lead to a single column, so that at most 13 blocks are pending.
 fn halve(map: &mut [u8], forms: &[i64; 35], g: Strides, w: CellRange, whole: Block)
     requires { ColumnsReady forms.now g (length map.old) w w.first × BlockIn g.nu g.nv whole }
-    ensures { Draws g (columnsOf whole) (cellPasses forms.now w) map.old map.new }
+    ensures { Draws g (columns_of whole) (cell_passes forms.now w) map.old map.new }
 {
     let none = Block {
         u0: 0,
@@ -86,7 +86,7 @@ fn halve(map: &mut [u8], forms: &[i64; 35], g: Strides, w: CellRange, whole: Blo
 
 // The block's columns on u.
 fn u_range(b: Block) -> CellRange
-    ensures { result ≡ uRange b }
+    ensures { result ≡ u_range b }
 {
     CellRange {
         first: b.u0 as usize,
@@ -96,7 +96,7 @@ fn u_range(b: Block) -> CellRange
 
 // The block's columns on v.
 fn v_range(b: Block) -> CellRange
-    ensures { result ≡ vRange b }
+    ensures { result ≡ v_range b }
 {
     CellRange {
         first: b.v0 as usize,
@@ -107,7 +107,7 @@ fn v_range(b: Block) -> CellRange
 // Has the block at most 64 columns?
 fn is_small(b: Block) -> bool
     requires { BlockIn 64 64 b }
-    ensures { result ≡ isSmall b }
+    ensures { result ≡ is_small b }
 {
     let nu = b.u1 as usize - b.u0 as usize;
     let nv = b.v1 as usize - b.v0 as usize;
@@ -116,7 +116,7 @@ fn is_small(b: Block) -> bool
 
 // The block cut in two across its longer side.
 fn cut(b: Block) -> Halves
-    requires { BlockIn 64 64 b × (isSmall b ≡ false) }
+    requires { BlockIn 64 64 b × (is_small b ≡ false) }
     ensures { Halved b result.low result.high }
 {
     let nu = b.u1 - b.u0;
@@ -145,7 +145,7 @@ fn middle(first: u8, end: u8) -> u8
 // 1 where no edge rules out the block, else 0.
 fn kept(forms: &[i64; 35], b: Block) -> usize
     requires { BoundedForms forms.now × BlockIn 64 64 b }
-    ensures { result ≡ bit (keptBy forms.now b) }
+    ensures { result ≡ bit (kept_by forms.now b) }
 {
     if rules_out(forms, 0, b) {
         return 0;
@@ -162,7 +162,7 @@ fn kept(forms: &[i64; 35], b: Block) -> usize
 // Does edge m rule out every column of the block? It is asked at the corner where its form is greatest.
 fn rules_out(forms: &[i64; 35], m: usize, b: Block) -> bool
     requires { (m < 3) × BoundedForm (edge_at forms.now m).uv × BlockIn 64 64 b }
-    ensures { result ≡ lt_z (farValue forms.now m b) (pos 0) }
+    ensures { result ≡ lt_z (far_value forms.now m b) (pos 0) }
 {
     let f = forms::uv(forms, m);
     let u = far_end(f.a, b.u0, b.u1);
@@ -173,7 +173,7 @@ fn rules_out(forms: &[i64; 35], m: usize, b: Block) -> bool
 // The end of a range at which a × i is greatest.
 fn far_end(a: i64, first: u8, end: u8) -> i64
     requires { (first < end) × (end ≤ 64) }
-    ensures { (result ≡ farEnd a first end) × Within indexMax result }
+    ensures { (result ≡ far_end a first end) × Within index_max result }
 {
     if a < 0 {
         return first as i64;

@@ -1,18 +1,18 @@
 // The overlap rule of one triangle and one box, in two parts: their boxes, and what is beyond them. A fill asks it of many boxes, by forms that are set up once.
 ghost use Rattle.std.specs.Prelude.{[], ◌∷◌, ◌≡◌, pos, ◌≤ℤ◌};
 ghost use Rattle.integers.specs.Within.{Within, Withins};
-ghost use Rattle.geometry.specs.Bounds.{offsetMax, normalMax, extentMax, each, PointWithin, TriangleWithin, BoundedPoint, BoundedTriangle};
+ghost use Rattle.geometry.specs.Bounds.{offset_max, normal_max, extent_max, each, PointWithin, TriangleWithin, BoundedPoint, BoundedTriangle};
 ghost use Rattle.geometry.specs.Geometry.{cube};
-ghost use Rattle.column_rule.specs.Column.{formsHold};
-ghost use Rattle.box_test.specs.Inner.{boxesHold, axisMeets, planeMeets, edgeMeets, edgesMeet, formsMeet, axisBounds, edgeBounds, edgesBounds};
+ghost use Rattle.column_rule.specs.Column.{forms_hold};
+ghost use Rattle.box_test.specs.Inner.{boxes_hold, axis_meets, plane_meets, edge_meets, edges_meet, forms_meet, axis_bounds, edge_bounds, edges_bounds};
 
 use geometry::{Point, Triangle};
 
 // Do the boxes meet: that of the triangle, and the box with lowest corner p, `extent` long on each axis? They rule out most triangles, so that a caller asks for
 // them first, and for the rest of the rule where they meet.
 pub fn boxes_meet(t: Triangle, p: Point, extent: i64) -> bool
-    requires { BoundedTriangle t × BoundedPoint p × Within extentMax extent }
-    ensures { result ≡ boxesHold t p (cube extent) }
+    requires { BoundedTriangle t × BoundedPoint p × Within extent_max extent }
+    ensures { result ≡ boxes_hold t p (cube extent) }
 {
     let v0 = t.v0;
     let v1 = t.v1;
@@ -28,16 +28,16 @@ pub fn boxes_meet(t: Triangle, p: Point, extent: i64) -> bool
 
 // What the rule asks beyond the boxes: the plane, and the edges in each plane of two axes.
 pub fn beyond_boxes(t: Triangle, p: Point, extent: i64) -> bool
-    requires { BoundedTriangle t × BoundedPoint p × Within extentMax extent × (pos 0 ≤ℤ extent) }
-    ensures { result ≡ formsHold t p (cube extent) }
+    requires { BoundedTriangle t × BoundedPoint p × Within extent_max extent × (pos 0 ≤ℤ extent) }
+    ensures { result ≡ forms_hold t p (cube extent) }
 {
     forms_meet(placed::measured_from(p, t), extent)
 }
 
 // On an axis, does the range of the corners' coordinates meet the box, from `low` to `low` + `extent`?
 fn axis_meets(a0: i64, a1: i64, a2: i64, low: i64, extent: i64) -> bool
-    requires { Withins axisBounds (a0 ∷ a1 ∷ a2 ∷ low ∷ extent ∷ []) }
-    ensures { result ≡ axisMeets a0 a1 a2 low extent }
+    requires { Withins axis_bounds (a0 ∷ a1 ∷ a2 ∷ low ∷ extent ∷ []) }
+    ensures { result ≡ axis_meets a0 a1 a2 low extent }
 {
     let least = integers::min(integers::min(a0, a1), a2);
     if low + extent < least {
@@ -48,8 +48,8 @@ fn axis_meets(a0: i64, a1: i64, a2: i64, low: i64, extent: i64) -> bool
 
 // The same of a triangle that is measured from the box's lowest corner.
 fn forms_meet(t: Triangle, extent: i64) -> bool
-    requires { TriangleWithin offsetMax t × Within extentMax extent }
-    ensures { result ≡ formsMeet t extent }
+    requires { TriangleWithin offset_max t × Within extent_max extent }
+    ensures { result ≡ forms_meet t extent }
 {
     let n = placed::normal(t);
     let v0 = t.v0;
@@ -69,8 +69,8 @@ fn forms_meet(t: Triangle, extent: i64) -> bool
 
 // Does the plane with normal n through the corner v pass the box?
 fn plane_meets(n: Point, v: Point, extent: i64) -> bool
-    requires { PointWithin normalMax n × PointWithin offsetMax v × Within extentMax extent }
-    ensures { result ≡ planeMeets n v extent }
+    requires { PointWithin normal_max n × PointWithin offset_max v × Within extent_max extent }
+    ensures { result ≡ plane_meets n v extent }
 {
     let f = forms::plane_form(n.x, n.y, n.z, v.x, v.y, v.z, 0, extent);
     if f.at < 0 {
@@ -81,8 +81,8 @@ fn plane_meets(n: Point, v: Point, extent: i64) -> bool
 
 // In the plane of two axes, does the box reach the inner side of each edge? n is the normal's component on the third axis.
 fn edges_meet(n: i64, a0: i64, b0: i64, a1: i64, b1: i64, a2: i64, b2: i64, extent: i64) -> bool
-    requires { Withins edgesBounds (n ∷ a0 ∷ b0 ∷ a1 ∷ b1 ∷ a2 ∷ b2 ∷ extent ∷ []) }
-    ensures { result ≡ edgesMeet n a0 b0 a1 b1 a2 b2 extent }
+    requires { Withins edges_bounds (n ∷ a0 ∷ b0 ∷ a1 ∷ b1 ∷ a2 ∷ b2 ∷ extent ∷ []) }
+    ensures { result ≡ edges_meet n a0 b0 a1 b1 a2 b2 extent }
 {
     if !edge_meets(n, a0, b0, a1, b1, extent) {
         return false;
@@ -95,8 +95,8 @@ fn edges_meet(n: i64, a0: i64, b0: i64, a1: i64, b1: i64, a2: i64, b2: i64, exte
 
 // The same of the edge from the corner (va, vb) to the corner (wa, wb).
 fn edge_meets(n: i64, va: i64, vb: i64, wa: i64, wb: i64, extent: i64) -> bool
-    requires { Withins edgeBounds (n ∷ va ∷ vb ∷ wa ∷ wb ∷ extent ∷ []) }
-    ensures { result ≡ edgeMeets n va vb wa wb extent }
+    requires { Withins edge_bounds (n ∷ va ∷ vb ∷ wa ∷ wb ∷ extent ∷ []) }
+    ensures { result ≡ edge_meets n va vb wa wb extent }
 {
     let f = forms::edge_form(n, wa - va, wb - vb, va, vb, 0, extent);
     0 <= f.c

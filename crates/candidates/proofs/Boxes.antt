@@ -13,10 +13,10 @@ use Rattle.integers.proofs.Ring.{ring}
 use Rattle.integers.proofs.Certificates.{nn, le, by-nn, by_le}
 use Rattle.geometry.specs.declared.Point.{Point}
 use Rattle.geometry.specs.declared.Triangle.{Triangle}
-use Rattle.geometry.specs.Geometry.{point, dot, Axis, xOf, yOf, z_of}
-use Rattle.reach.specs.Reaches.{weightedSum, Between, ReachesBox}
+use Rattle.geometry.specs.Geometry.{point, dot, Axis, x_of, y_of, z_of}
+use Rattle.reach.specs.Reaches.{weighted_sum, Between, ReachesBox}
 use Rattle.reach.proofs.Vectors.{Vector, vector, dotᴱ, minusᴱ, totalᴱ, vec, ◌at◌}
-use Rattle.candidates.specs.Candidates.{lowOn, highOn, rows, Fits}
+use Rattle.candidates.specs.Candidates.{low_on, high_on, rows, Fits}
 use Rattle.candidates.proofs.Rows.{Each, at_row}
 
 -- ---- on an axis, the two sides say what the sides of the box do
@@ -41,13 +41,13 @@ module _ (t : Triangle) (p d : Point) (w0 w1 w2 : ℕ) where
     abbrev high : Vector
     high = minusᴱ (vector D D D) low
 
-    low-row : Between p d (w0 + w1 + w2) a (weightedSum t w0 w1 w2 a) → NN (dot (lowOn t p a) w)
+    low-row : Between p d (w0 + w1 + w2) a (weighted_sum t w0 w1 w2 a) → NN (dot (low_on t p a) w)
     low-row h = by-nn ρ (dotᴱ low (vec 1)) (le (P ⊗ totalᴱ (vec 1)) (dotᴱ (vec 1) (vec 0)) h.from) tt
 
-    high-row : Between p d (w0 + w1 + w2) a (weightedSum t w0 w1 w2 a) → NN (dot (highOn t p d a) w)
+    high-row : Between p d (w0 + w1 + w2) a (weighted_sum t w0 w1 w2 a) → NN (dot (high_on t p d a) w)
     high-row h = by-nn ρ (dotᴱ high (vec 1)) (le (dotᴱ (vec 1) (vec 0)) ((P ⊕ D) ⊗ totalᴱ (vec 1)) h.to) tt
 
-    between : NN (dot (lowOn t p a) w) → NN (dot (highOn t p d a) w) → Between p d (w0 + w1 + w2) a (weightedSum t w0 w1 w2 a)
+    between : NN (dot (low_on t p a) w) → NN (dot (high_on t p d a) w) → Between p d (w0 + w1 + w2) a (weighted_sum t w0 w1 w2 a)
     between l h = record {
       from = by_le ρ (P ⊗ totalᴱ (vec 1)) (dotᴱ (vec 1) (vec 0)) (nn (dotᴱ low (vec 1)) l) tt;
       to = by_le ρ (dotᴱ (vec 1) (vec 0)) ((P ⊕ D) ⊗ totalᴱ (vec 1)) (nn (dotᴱ high (vec 1)) h) tt;
@@ -81,8 +81,8 @@ module _ {t : Triangle} {p d : Point} where
           w1 = y;
           w2 = z;
           some = lt-pos h.some;
-          x = between t p d x y z xOf (h.rows 3 (omega arith)) (h.rows 6 (omega arith));
-          y = between t p d x y z yOf (h.rows 4 (omega arith)) (h.rows 7 (omega arith));
+          x = between t p d x y z x_of (h.rows 3 (omega arith)) (h.rows 6 (omega arith));
+          y = between t p d x y z y_of (h.rows 4 (omega arith)) (h.rows 7 (omega arith));
           z = between t p d x y z z_of (h.rows 5 (omega arith)) (h.rows 8 (omega arith));
         };
         by = refl;
@@ -100,10 +100,10 @@ module _ {t : Triangle} {p d : Point} where
       nought : NN (dot (point (pos 0) (pos 0) (pos 0)) w)
       nought = nn-zero (ring (w at []) (dotᴱ (vector (num 0) (num 0) (num 0)) (vec 0)) (num 0) tt)
 
-      low : (a : Axis) → Between p d (r.w0 + r.w1 + r.w2) a (weightedSum t r.w0 r.w1 r.w2 a) → NN (dot (lowOn t p a) w)
+      low : (a : Axis) → Between p d (r.w0 + r.w1 + r.w2) a (weighted_sum t r.w0 r.w1 r.w2 a) → NN (dot (low_on t p a) w)
       low a h = low-row t p d r.w0 r.w1 r.w2 a h
 
-      high : (a : Axis) → Between p d (r.w0 + r.w1 + r.w2) a (weightedSum t r.w0 r.w1 r.w2 a) → NN (dot (highOn t p d a) w)
+      high : (a : Axis) → Between p d (r.w0 + r.w1 + r.w2) a (weighted_sum t r.w0 r.w1 r.w2 a) → NN (dot (high_on t p d a) w)
       high a h = high-row t p d r.w0 r.w1 r.w2 a h
 
       values : Each (λ r. NN (dot r w)) (rows t p d)
@@ -113,7 +113,7 @@ module _ {t : Triangle} {p d : Point} where
           subst NN (sym (unit-y w)) (nn-pos r.w1),
           (
             subst NN (sym (unit-z w)) (nn-pos r.w2),
-            (low xOf r.x, (low yOf r.y, (low z_of r.z, (high xOf r.x, (high yOf r.y, (high z_of r.z, tt)))))),
+            (low x_of r.x, (low y_of r.y, (low z_of r.z, (high x_of r.x, (high y_of r.y, (high z_of r.z, tt)))))),
           ),
         ),
       )

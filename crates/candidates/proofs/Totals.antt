@@ -15,9 +15,9 @@ use Rattle.integers.proofs.Bounds.{within-high, within-sub, within-mul, within-n
 use Rattle.geometry.specs.declared.Point.{Point}
 use Rattle.geometry.specs.declared.Triangle.{Triangle}
 use Rattle.geometry.specs.Bounds.{TriangleWithin}
-use Rattle.geometry.specs.Geometry.{cross, xOf, yOf, z_of}
+use Rattle.geometry.specs.Geometry.{cross, x_of, y_of, z_of}
 use Rattle.reach.proofs.Vectors.{total, totalᴱ, crossᴱ, vec, ◌at◌}
-use Rattle.candidates.specs.Candidates.{lowSide, highSide, lowOn, rows, row, candidate}
+use Rattle.candidates.specs.Candidates.{low_side, high_side, low_on, rows, row, candidate}
 use Rattle.candidates.proofs.Rows.{at_row}
 
 -- the numbers of a row are no more than B apart
@@ -32,26 +32,26 @@ module _ {B : ℕ} where
       subst (λ x. x ≤ℤ pos (B * B + B * B)) (ring (c at d at []) ((D.y ⊖ D.x) ⊗ (C.z ⊖ C.x) ⊖ (D.z ⊖ D.x) ⊗ (C.y ⊖ C.x)) (totalᴱ (crossᴱ D C)) tt)
       (within-high (within-sub (within-mul hd.y hc.z) (within-mul hd.z hc.y)))
 
-  high-spread : {x : Point} (d : ℤ) → Spread B x → Spread B (highSide x d)
+  high-spread : {x : Point} (d : ℤ) → Spread B x → Spread B (high_side x d)
   high-spread {x} d h = record { y = apart x.x x.y h.y; z = apart x.x x.z h.z }
     where
       apart : (a b : ℤ) → Within B (b -ℤ a) → Within B ((d -ℤ b) -ℤ (d -ℤ a))
       apart a b h = subst (Within B) (ring (a ∷ b ∷ d ∷ []) (neg (var 1 ⊖ var 0)) ((var 2 ⊖ var 1) ⊖ (var 2 ⊖ var 0)) tt) (within-neg h)
 
-low-spread : {M : ℕ} {a b c : ℤ} (p : ℤ) → Within M a → Within M b → Within M c → Spread (M + M) (lowSide a b c p)
+low-spread : {M : ℕ} {a b c : ℤ} (p : ℤ) → Within M a → Within M b → Within M c → Spread (M + M) (low_side a b c p)
 low-spread {M} {a} p ha hb hc = record { y = apart hb; z = apart hc }
   where
     apart : {b : ℤ} → Within M b → Within (M + M) ((b -ℤ p) -ℤ (a -ℤ p))
     apart {b} hb = subst (Within (M + M)) (ring (a ∷ b ∷ p ∷ []) (var 1 ⊖ var 0) ((var 1 ⊖ var 2) ⊖ (var 0 ⊖ var 2)) tt) (within-sub hb ha)
 
 module _ {M : ℕ} {t : Triangle} (p d : Point) (l : 0 < M) (h : TriangleWithin M t) where
-  low_x : Spread (M + M) (lowOn t p xOf)
+  low_x : Spread (M + M) (low_on t p x_of)
   low_x = low-spread p.x h.v0.x h.v1.x h.v2.x
 
-  low-y : Spread (M + M) (lowOn t p yOf)
+  low-y : Spread (M + M) (low_on t p y_of)
   low-y = low-spread p.y h.v0.y h.v1.y h.v2.y
 
-  low-z : Spread (M + M) (lowOn t p z_of)
+  low-z : Spread (M + M) (low_on t p z_of)
   low-z = low-spread p.z h.v0.z h.v1.z h.v2.z
 
   unit-spread : {r : Point} → nat_abs (r.y -ℤ r.x) + nat_abs (r.z -ℤ r.x) ≤ 2 → Spread (M + M) r

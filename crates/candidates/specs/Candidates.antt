@@ -4,28 +4,28 @@
 use Rattle.std.specs.Prelude.{List, [], ◌∷◌, ℕ, ◌/◌, ◌%◌, ◌<◌, ℤ, pos, ◌+ℤ◌, ◌-ℤ◌, get_or, ◌≤ℤ◌, ◌<ℤ◌}
 use Rattle.geometry.specs.declared.Point.{Point}
 use Rattle.geometry.specs.declared.Triangle.{Triangle}
-use Rattle.geometry.specs.Geometry.{point, dot, cross, Axis, xOf, yOf, z_of}
+use Rattle.geometry.specs.Geometry.{point, dot, cross, Axis, x_of, y_of, z_of}
 
 -- How far corners at a, b and c on an axis are above the box's low side there, at p.
-abbrev pub lowSide : (a b c p : ℤ) → Point
-lowSide a b c p = point (a -ℤ p) (b -ℤ p) (c -ℤ p)
+abbrev pub low_side : (a b c p : ℤ) → Point
+low_side a b c p = point (a -ℤ p) (b -ℤ p) (c -ℤ p)
 
 -- How far they are below its high side, where they are x above the low one and the box has the extent d.
-abbrev pub highSide : Point → (d : ℤ) → Point
-highSide x d = point (d -ℤ x.x) (d -ℤ x.y) (d -ℤ x.z)
+abbrev pub high_side : Point → (d : ℤ) → Point
+high_side x d = point (d -ℤ x.x) (d -ℤ x.y) (d -ℤ x.z)
 
 -- The rows of the two sides on an axis.
-abbrev pub lowOn : Triangle → Point → Axis → Point
-lowOn t p a = lowSide (a t.v0) (a t.v1) (a t.v2) (a p)
+abbrev pub low_on : Triangle → Point → Axis → Point
+low_on t p a = low_side (a t.v0) (a t.v1) (a t.v2) (a p)
 
-abbrev pub highOn : Triangle → (p d : Point) → Axis → Point
-highOn t p d a = highSide (lowOn t p a) (a d)
+abbrev pub high_on : Triangle → (p d : Point) → Axis → Point
+high_on t p d a = high_side (low_on t p a) (a d)
 
 -- The rows: the three weights themselves, the low sides and the high sides.
 abbrev pub rows : Triangle → (p d : Point) → List Point
 rows t p d =
     point (pos 1) (pos 0) (pos 0) ∷ point (pos 0) (pos 1) (pos 0) ∷ point (pos 0) (pos 0) (pos 1)
-    ∷ lowOn t p xOf ∷ lowOn t p yOf ∷ lowOn t p z_of ∷ highOn t p d xOf ∷ highOn t p d yOf ∷ highOn t p d z_of ∷ []
+    ∷ low_on t p x_of ∷ low_on t p y_of ∷ low_on t p z_of ∷ high_on t p d x_of ∷ high_on t p d y_of ∷ high_on t p d z_of ∷ []
 
 -- Row k of a list. Past its end the rows are 0.
 abbrev pub row : List Point → ℕ → Point

@@ -1,18 +1,18 @@
 // Where a cell is, as a line of text: its place along x, y and z, and its box.
 ghost use Rattle.std.specs.Prelude.{◌≡◌, ◌+◌, ◌≤◌, ◌<◌, ◌^◌, pos, ◌+ℤ◌, ◌*ℤ◌, length};
 ghost use Rattle.integers.specs.Within.{Within};
-ghost use Rattle.grid.specs.Grid.{cellCount};
+ghost use Rattle.grid.specs.Grid.{cell_count};
 ghost use Rattle.grid.specs.Usable.{GridWithin};
 ghost use Rattle.text.specs.Text.{spaced};
 ghost use Rattle.text.specs.Inner.{Puts};
-ghost use Rattle.cell_line.specs.Line.{axisNumbers, axesLine, boxLine};
+ghost use Rattle.cell_line.specs.Line.{axis_numbers, axes_line, box_line};
 
 use grid::Grid;
 
 // Puts "CELL" and the numbers of a cell at the start, and answers the line's length, which is at most 128.
 pub fn put_cell(out: &mut [u8], g: Grid, cell: usize) -> usize
-    requires { GridWithin (2 ^ 13) (2 ^ 8) g × (cell < cellCount g) × (128 ≤ length out.old) }
-    ensures { Puts out.old 0 (boxLine g cell) out.new result × (result ≤ 128) }
+    requires { GridWithin (2 ^ 13) (2 ^ 8) g × (cell < cell_count g) × (128 ≤ length out.old) }
+    ensures { Puts out.old 0 (box_line g cell) out.new result × (result ≤ 128) }
 {
     let o = g.origin;
     let row = cell / g.nx;
@@ -40,7 +40,7 @@ fn put_axes(
     k: usize,
 ) -> usize
     requires { Within (2 ^ 8) edge × Within (2 ^ 13) x × Within (2 ^ 13) y × Within (2 ^ 13) z × (i < 64) × (j < 64) × (k < 64) × (128 ≤ length out.old) }
-    ensures { Puts out.old 0 (axesLine edge x y z i j k) out.new result × (result ≤ 128) }
+    ensures { Puts out.old 0 (axes_line edge x y z i j k) out.new result × (result ≤ 128) }
 {
     let first = text::put_word(out, 0, b"CELL ");
     let second = put_axis(out, first, x, i, edge);
@@ -52,7 +52,7 @@ fn put_axes(
 // Puts a cell's numbers of one axis: its place i, and both ends of its box.
 fn put_axis(out: &mut [u8], at: usize, origin: i64, i: usize, edge: i64) -> usize
     requires { Within (2 ^ 13) origin × (i < 64) × Within (2 ^ 8) edge × (at + 36 ≤ length out.old) }
-    ensures { Puts out.old at (spaced (axisNumbers origin i edge)) out.new result × (result ≤ at + 36) }
+    ensures { Puts out.old at (spaced (axis_numbers origin i edge)) out.new result × (result ≤ at + 36) }
 {
     let numbers = [
         numbers::small(i),

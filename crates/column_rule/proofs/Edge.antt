@@ -9,7 +9,7 @@ use mathlib.Core.Bool.{Bool, true, false, cond, and-eq-true_iff}
 use mathlib.Core.List.{List, [], ◌∷◌}
 use lib.IntN.{ℤ, pos, negsuc, neg_ℤ, nat_abs, ◌+ℤ◌, ◌-ℤ◌, ◌*ℤ◌, zero-*ℤ}
 use lib.Signed.{◌≤ℤ◌, ◌<ℤ◌, le_z, lt_z}
-use Rattle.integers.specs.Order.{minℤ, maxℤ}
+use Rattle.integers.specs.Order.{min_ℤ, max_ℤ}
 use Rattle.integers.proofs.Omega.{zarith, le-true}
 use Rattle.integers.proofs.Laws.{NN, ≤-or->, <→≤, ≤-antisymm, nn-mul}
 use Rattle.integers.proofs.Bounds.{abs_neg}
@@ -22,7 +22,7 @@ use Rattle.integers.proofs.Orientation.{orientation, turned_by, orientation-nn}
 use Rattle.geometry.specs.declared.Point.{Point}
 use Rattle.geometry.specs.declared.Triangle.{Triangle}
 use Rattle.geometry.specs.Geometry.{dot, minus, cube}
-use Rattle.overlap.specs.Rule.{normal, turned, planeHolds, least8, greatest8}
+use Rattle.overlap.specs.Rule.{normal, turned, plane_holds, least8, greatest8}
 use Rattle.overlap.proofs.Corners.{least8-sum, greatest8-sum}
 
 pub turned-size : (n c : ℤ) → nat_abs (turned n c) ≡ nat_abs c
@@ -95,32 +95,32 @@ module _ (d m : ℤ) where
     | inr e ↦ record { α = d; step = inr refl; is = e }
   ]
 
-  greatest-at : Multiple d m (maxℤ (pos 0) (d *ℤ m))
+  greatest-at : Multiple d m (max_ℤ (pos 0) (d *ℤ m))
   greatest-at = multiple _ (max-either (pos 0) (d *ℤ m))
 
-  least_at : Multiple d m (minℤ (pos 0) (d *ℤ m))
+  least_at : Multiple d m (min_ℤ (pos 0) (d *ℤ m))
   least_at = multiple _ (min-either (pos 0) (d *ℤ m))
 
   -- what holds of 0 and of d · m holds at each corner
   at-corner : (P : ℤ → Type 0) → P (pos 0) → P (d *ℤ m) → {α : ℤ} → Step d α → P (α *ℤ m)
   at-corner P z f h = elim h [ inl e ↦ subst (λ a. P (a *ℤ m)) (sym e) (rw zero-*ℤ z) | inr e ↦ subst (λ a. P (a *ℤ m)) (sym e) f ]
 
-  at_most : {α : ℤ} → Step d α → (α *ℤ m) ≤ℤ maxℤ (pos 0) (d *ℤ m)
-  at_most = at-corner (λ z. z ≤ℤ maxℤ (pos 0) (d *ℤ m)) (≤-max-left (pos 0) (d *ℤ m)) (≤-max-right (pos 0) (d *ℤ m))
+  at_most : {α : ℤ} → Step d α → (α *ℤ m) ≤ℤ max_ℤ (pos 0) (d *ℤ m)
+  at_most = at-corner (λ z. z ≤ℤ max_ℤ (pos 0) (d *ℤ m)) (≤-max-left (pos 0) (d *ℤ m)) (≤-max-right (pos 0) (d *ℤ m))
 
-  at_least : {α : ℤ} → Step d α → minℤ (pos 0) (d *ℤ m) ≤ℤ (α *ℤ m)
-  at_least = at-corner (λ z. minℤ (pos 0) (d *ℤ m) ≤ℤ z) (min-≤-left (pos 0) (d *ℤ m)) (min-≤-right (pos 0) (d *ℤ m))
+  at_least : {α : ℤ} → Step d α → min_ℤ (pos 0) (d *ℤ m) ≤ℤ (α *ℤ m)
+  at_least = at-corner (λ z. min_ℤ (pos 0) (d *ℤ m) ≤ℤ z) (min-≤-left (pos 0) (d *ℤ m)) (min-≤-right (pos 0) (d *ℤ m))
 
 -- ---- the rule's value of an edge, over the numbers in the plane of two axes
-abbrev pub valueIn : (ma mb va vb pa pb d : ℤ) → ℤ
-valueIn ma mb va vb pa pb d = ma *ℤ pa +ℤ mb *ℤ pb -ℤ (ma *ℤ va +ℤ mb *ℤ vb) +ℤ maxℤ (pos 0) (d *ℤ ma) +ℤ maxℤ (pos 0) (d *ℤ mb)
+abbrev pub value_in : (ma mb va vb pa pb d : ℤ) → ℤ
+value_in ma mb va vb pa pb d = ma *ℤ pa +ℤ mb *ℤ pb -ℤ (ma *ℤ va +ℤ mb *ℤ vb) +ℤ max_ℤ (pos 0) (d *ℤ ma) +ℤ max_ℤ (pos 0) (d *ℤ mb)
 
-abbrev pub edgeIn : (n ea eb va vb pa pb d : ℤ) → ℤ
-edgeIn n ea eb va vb pa pb d = valueIn (turned n (neg_ℤ eb)) (turned n ea) va vb pa pb d
+abbrev pub edge_in : (n ea eb va vb pa pb d : ℤ) → ℤ
+edge_in n ea eb va vb pa pb d = value_in (turned n (neg_ℤ eb)) (turned n ea) va vb pa pb d
 
 -- by its sign
-by_sign : (n ea eb va vb pa pb d : ℤ) → edgeIn n ea eb va vb pa pb d ≡ valueIn (orientation n *ℤ neg_ℤ eb) (orientation n *ℤ ea) va vb pa pb d
-by_sign n ea eb va vb pa pb d = λ l. valueIn (turned_by n (neg_ℤ eb) l) (turned_by n ea l) va vb pa pb d
+by_sign : (n ea eb va vb pa pb d : ℤ) → edge_in n ea eb va vb pa pb d ≡ value_in (orientation n *ℤ neg_ℤ eb) (orientation n *ℤ ea) va vb pa pb d
+by_sign n ea eb va vb pa pb d = λ l. value_in (turned_by n (neg_ℤ eb) l) (turned_by n ea l) va vb pa pb d
 
 -- In the plane of two axes, the corner (α, β) of the box at (pa, pb).
 module _ (σ ea eb va vb pa pb d : ℤ) {α β : ℤ} (hα : Step d α) (hβ : Step d β) where
@@ -150,49 +150,49 @@ module _ (σ ea eb va vb pa pb d : ℤ) {α β : ℤ} (hα : Step d α) (hβ : S
   valueᴱ = maᴱ ⊗ var 5 ⊕ mbᴱ ⊗ var 6 ⊖ (maᴱ ⊗ var 3 ⊕ mbᴱ ⊗ var 4) ⊕ var 9 ⊕ var 10
 
   abbrev xa : ℤ
-  xa = maxℤ (pos 0) (d *ℤ ma)
+  xa = max_ℤ (pos 0) (d *ℤ ma)
 
   abbrev xb : ℤ
-  xb = maxℤ (pos 0) (d *ℤ mb)
+  xb = max_ℤ (pos 0) (d *ℤ mb)
 
   -- where a corner is on the inner side, the test holds
-  corner-holds : NN here → NN (valueIn ma mb va vb pa pb d)
+  corner-holds : NN here → NN (value_in ma mb va vb pa pb d)
   corner-holds h =
       by-nn (ρc xa xb (pos 0) (pos 0)) valueᴱ
       (nn hereᴱ h ⊞ le (var 7 ⊗ maᴱ) (var 9) (at_most d ma hα) ⊞ le (var 8 ⊗ mbᴱ) (var 10) (at_most d mb hβ)) tt
 
   -- where the whole square is, each corner is
-  square-corner : let ya = minℤ (pos 0) (d *ℤ ma) in let yb = minℤ (pos 0) (d *ℤ mb) in (xa -ℤ ya +ℤ (xb -ℤ yb)) ≤ℤ valueIn ma mb va vb pa pb d → NN here
+  square-corner : let ya = min_ℤ (pos 0) (d *ℤ ma) in let yb = min_ℤ (pos 0) (d *ℤ mb) in (xa -ℤ ya +ℤ (xb -ℤ yb)) ≤ℤ value_in ma mb va vb pa pb d → NN here
   square-corner h =
-      let ya = minℤ (pos 0) (d *ℤ ma) in
-      let yb = minℤ (pos 0) (d *ℤ mb) in
+      let ya = min_ℤ (pos 0) (d *ℤ ma) in
+      let yb = min_ℤ (pos 0) (d *ℤ mb) in
       by-nn (ρc xa xb ya yb) hereᴱ
       (le (var 9 ⊖ var 11 ⊕ (var 10 ⊖ var 12)) valueᴱ h ⊞ le (var 11) (var 7 ⊗ maᴱ) (at_least d ma hα) ⊞ le (var 12) (var 8 ⊗ mbᴱ) (at_least d mb hβ)) tt
 
 -- the square's spread, as it is computed
 module _ {d : ℤ} (h : pos 0 ≤ℤ d) where
-  spread-of : (m : ℤ) → maxℤ (pos 0) (d *ℤ m) -ℤ minℤ (pos 0) (d *ℤ m) ≡ d *ℤ pos (nat_abs m)
+  spread-of : (m : ℤ) → max_ℤ (pos 0) (d *ℤ m) -ℤ min_ℤ (pos 0) (d *ℤ m) ≡ d *ℤ pos (nat_abs m)
   spread-of m =
       ap₂ ◌-ℤ◌ (max-scale m h) (min-scale m h)
-      ∙ ring (d ∷ maxℤ (pos 0) m ∷ minℤ (pos 0) m ∷ []) (var 0 ⊗ var 1 ⊖ var 0 ⊗ var 2) (var 0 ⊗ (var 1 ⊖ var 2)) tt
+      ∙ ring (d ∷ max_ℤ (pos 0) m ∷ min_ℤ (pos 0) m ∷ []) (var 0 ⊗ var 1 ⊖ var 0 ⊗ var 2) (var 0 ⊗ (var 1 ⊖ var 2)) tt
       ∙ ap (λ (z : ℤ). d *ℤ z) (spread m)
 
   size_of : (n c : ℤ) → nat_abs (orientation n *ℤ c) ≡ nat_abs c
   size_of n c = ap nat_abs (sym (turned_by n c)) ∙ turned-size n c
 
   square-is : (n ea eb : ℤ) → let ma = orientation n *ℤ neg_ℤ eb in let mb = orientation n *ℤ ea in
-      maxℤ (pos 0) (d *ℤ ma) -ℤ minℤ (pos 0) (d *ℤ ma) +ℤ (maxℤ (pos 0) (d *ℤ mb) -ℤ minℤ (pos 0) (d *ℤ mb)) ≡ d *ℤ (pos (nat_abs ea) +ℤ pos (nat_abs eb))
+      max_ℤ (pos 0) (d *ℤ ma) -ℤ min_ℤ (pos 0) (d *ℤ ma) +ℤ (max_ℤ (pos 0) (d *ℤ mb) -ℤ min_ℤ (pos 0) (d *ℤ mb)) ≡ d *ℤ (pos (nat_abs ea) +ℤ pos (nat_abs eb))
   square-is n ea eb =
       ap₂ ◌+ℤ◌ (spread-of (orientation n *ℤ neg_ℤ eb) ∙ ap (λ k. d *ℤ pos k) (size_of n (neg_ℤ eb) ∙ abs_neg eb)) (spread-of (orientation n *ℤ ea) ∙ ap (λ k. d *ℤ pos k) (size_of n ea))
       ∙ ring (d ∷ pos (nat_abs ea) ∷ pos (nat_abs eb) ∷ []) (var 0 ⊗ var 2 ⊕ var 0 ⊗ var 1) (var 0 ⊗ (var 1 ⊕ var 2)) tt
 
 -- ---- the plane: of the box's corners, one has the wanted sign
 module _ (n o v p : Point) (d : ℤ) (through : dot n v ≡ dot n o) where
-  abbrev offsetAt : (α β γ : ℤ) → ℤ
-  offsetAt α β γ = n.x *ℤ (p.x +ℤ α -ℤ v.x) +ℤ n.y *ℤ (p.y +ℤ β -ℤ v.y) +ℤ n.z *ℤ (p.z +ℤ γ -ℤ v.z)
+  abbrev offset_at : (α β γ : ℤ) → ℤ
+  offset_at α β γ = n.x *ℤ (p.x +ℤ α -ℤ v.x) +ℤ n.y *ℤ (p.y +ℤ β -ℤ v.y) +ℤ n.z *ℤ (p.z +ℤ γ -ℤ v.z)
 
-  abbrev planeSum : (x y z : ℤ) → ℤ
-  planeSum x y z = dot n (minus p o) +ℤ x +ℤ y +ℤ z
+  abbrev plane_sum : (x y z : ℤ) → ℤ
+  plane_sum x y z = dot n (minus p o) +ℤ x +ℤ y +ℤ z
 
   pub record Corner (τ : ℤ) : Type 0 where
     pub α : ℤ
@@ -201,10 +201,10 @@ module _ (n o v p : Point) (d : ℤ) (through : dot n v ≡ dot n o) where
     pub stepα : Step d α
     pub stepβ : Step d β
     pub stepγ : Step d γ
-    pub wanted : NN (τ *ℤ offsetAt α β γ)
+    pub wanted : NN (τ *ℤ offset_at α β γ)
 
   module _ {x y z : ℤ} (mx : Multiple d n.x x) (my : Multiple d n.y y) (mz : Multiple d n.z z) where
-    corner-value : planeSum x y z ≡ offsetAt mx.α my.α mz.α
+    corner-value : plane_sum x y z ≡ offset_at mx.α my.α mz.α
     corner-value =
         by-eq (n.x ∷ n.y ∷ n.z ∷ v.x ∷ v.y ∷ v.z ∷ p.x ∷ p.y ∷ p.z ∷ o.x ∷ o.y ∷ o.z ∷ x ∷ y ∷ z ∷ mx.α ∷ my.α ∷ mz.α ∷ [])
         (var 0 ⊗ (var 6 ⊖ var 9) ⊕ var 1 ⊗ (var 7 ⊖ var 10) ⊕ var 2 ⊗ (var 8 ⊖ var 11) ⊕ var 12 ⊕ var 13 ⊕ var 14)
@@ -212,7 +212,7 @@ module _ (n o v p : Point) (d : ℤ) (through : dot n v ≡ dot n o) where
         (ze (num 1) (var 12) (var 15 ⊗ var 0) mx.is ⊹ ze (num 1) (var 13) (var 16 ⊗ var 1) my.is ⊹ ze (num 1) (var 14) (var 17 ⊗ var 2) mz.is
         ⊹ ze (num 1) (var 0 ⊗ var 3 ⊕ var 1 ⊗ var 4 ⊕ var 2 ⊗ var 5) (var 0 ⊗ var 9 ⊕ var 1 ⊗ var 10 ⊕ var 2 ⊗ var 11) through) tt
 
-    corner-of : (τ : ℤ) → NN (τ *ℤ planeSum x y z) → Corner τ
+    corner-of : (τ : ℤ) → NN (τ *ℤ plane_sum x y z) → Corner τ
     corner-of τ h = record {
       α = mx.α;
       β = my.α;
@@ -223,8 +223,8 @@ module _ (n o v p : Point) (d : ℤ) (through : dot n v ≡ dot n o) where
       wanted = subst (λ v. NN (τ *ℤ v)) corner-value h;
     }
 
-  corner-for : planeSum (minℤ (pos 0) (d *ℤ n.x)) (minℤ (pos 0) (d *ℤ n.y)) (minℤ (pos 0) (d *ℤ n.z)) ≤ℤ pos 0
-      → pos 0 ≤ℤ planeSum (maxℤ (pos 0) (d *ℤ n.x)) (maxℤ (pos 0) (d *ℤ n.y)) (maxℤ (pos 0) (d *ℤ n.z)) → (τ : ℤ) → Corner τ
+  corner-for : plane_sum (min_ℤ (pos 0) (d *ℤ n.x)) (min_ℤ (pos 0) (d *ℤ n.y)) (min_ℤ (pos 0) (d *ℤ n.z)) ≤ℤ pos 0
+      → pos 0 ≤ℤ plane_sum (max_ℤ (pos 0) (d *ℤ n.x)) (max_ℤ (pos 0) (d *ℤ n.y)) (max_ℤ (pos 0) (d *ℤ n.z)) → (τ : ℤ) → Corner τ
   corner-for l g τ = elim (≤-or-> (pos 0) τ) [
     | inl h ↦ corner-of (greatest-at d n.x) (greatest-at d n.y) (greatest-at d n.z) τ (nn-mul h g)
     | inr h ↦ corner-of (least_at d n.x) (least_at d n.y) (least_at d n.z) τ (nn-mul-neg (<→≤ h) l)
@@ -235,8 +235,8 @@ module _ (n o v p : Point) (d : ℤ) (through : dot n v ≡ dot n o) where
 
 -- ---- the lemma: the edge e from the corner v, and the box with lowest corner p and extent d
 module _ (t : Triangle) (e v p : Point) (d : ℤ) (positive : pos 0 ≤ℤ d) (along : dot (normal t) e ≡ pos 0) (through : dot (normal t) v ≡ dot (normal t) t.v0)
-    (steep : (normal t).z ≡ pos 0 → ⊥) (plane : planeHolds t p (cube d) ≡ true)
-    (square : (d *ℤ (pos (nat_abs e.x) +ℤ pos (nat_abs e.y))) ≤ℤ edgeIn (normal t).z e.x e.y v.x v.y p.x p.y d) where
+    (steep : (normal t).z ≡ pos 0 → ⊥) (plane : plane_holds t p (cube d) ≡ true)
+    (square : (d *ℤ (pos (nat_abs e.x) +ℤ pos (nat_abs e.y))) ≤ℤ edge_in (normal t).z e.x e.y v.x v.y p.x p.y d) where
   abbrev n : Point
   n = normal t
 
@@ -252,7 +252,7 @@ module _ (t : Triangle) (e v p : Point) (d : ℤ) (positive : pos 0 ≤ℤ d) (a
       square-corner (orientation n.z) e.x e.y v.x v.y p.x p.y d hα hβ
       (rw (square-is positive n.z e.x e.y) (rw (by_sign n.z e.x e.y v.x v.y p.x p.y d) at square))
 
-  pub yz-holds : pos 0 ≤ℤ edgeIn n.x e.y e.z v.y v.z p.y p.z d
+  pub yz-holds : pos 0 ≤ℤ edge_in n.x e.y e.z v.y v.z p.y p.z d
   yz-holds =
       let σ = orientation n.z in
       let τ = orientation n.x in
@@ -261,7 +261,7 @@ module _ (t : Triangle) (e v p : Point) (d : ℤ) (positive : pos 0 ≤ℤ d) (a
       (corner-holds τ e.y e.z v.y v.z p.y p.z d c.stepβ c.stepγ
       (gx-nn n.x n.y n.z e.x e.y e.z _ _ _ along σ τ (orientation-pos n.z steep) (orientation-nn n.x) (square-at c.stepα c.stepβ) c.wanted))
 
-  pub zx-holds : pos 0 ≤ℤ edgeIn n.y e.z e.x v.z v.x p.z p.x d
+  pub zx-holds : pos 0 ≤ℤ edge_in n.y e.z e.x v.z v.x p.z p.x d
   zx-holds =
       let σ = orientation n.z in
       let τ = orientation n.y in

@@ -13,17 +13,17 @@ use Rattle.integers.proofs.Expr.{Expr, var, num, ◌⊕◌, ◌⊖◌, ◌⊗◌
 use Rattle.integers.proofs.Ring.{ring}
 use Rattle.geometry.specs.declared.Point.{Point}
 use Rattle.geometry.specs.declared.Triangle.{Triangle}
-use Rattle.geometry.specs.Geometry.{point, dot, cross, minus, cube, xOf, yOf, z_of}
-use Rattle.geometry.specs.Inner.{measuredFrom}
+use Rattle.geometry.specs.Geometry.{point, dot, cross, minus, cube, x_of, y_of, z_of}
+use Rattle.geometry.specs.Inner.{measured_from}
 use Rattle.grid.specs.declared.Lattice.{Lattice}
-use Rattle.grid.specs.Grid.{boxCorner}
-use Rattle.overlap.specs.Rule.{normal, boxHolds, planeHolds, overlapsBox}
+use Rattle.grid.specs.Grid.{box_corner}
+use Rattle.overlap.specs.Rule.{normal, box_holds, plane_holds, overlaps_box}
 use Rattle.forms.specs.declared.Edge.{Edge}
-use Rattle.forms.specs.Form.{insideMax}
-use Rattle.forms.specs.Triangle.{edgeForm, insideFrom, edgeBetween, planeForm}
+use Rattle.forms.specs.Form.{inside_max}
+use Rattle.forms.specs.Triangle.{edge_form, inside_from, edge_between, plane_form}
 use Rattle.runs.specs.Run.{passes}
-use Rattle.column_rule.specs.Column.{formsHold, uvOf, planePasses, edgePasses, columnTest}
-use Rattle.column_rule.proofs.Edge.{edgeIn, yz-holds, zx-holds}
+use Rattle.column_rule.specs.Column.{forms_hold, uv_of, plane_passes, edge_passes, column_test}
+use Rattle.column_rule.proofs.Edge.{edge_in, yz-holds, zx-holds}
 use Rattle.column_rule.proofs.Values.{edge-value, plane-slab}
 
 -- ---- truths
@@ -57,9 +57,9 @@ five : (a b c d e : Bool) → (a && b && c && d && e) ≡ (a && (b && c && d && 
 five true b c d e = refl
 five false b c d e = refl
 
-pub rule-parts : (t : Triangle) (p d : Point) → overlapsBox t p d ≡ (boxHolds t p d xOf && boxHolds t p d yOf && boxHolds t p d z_of && formsHold t p d)
-unfolding overlapsBox formsHold
-rule-parts t p d = five (boxHolds t p d xOf && boxHolds t p d yOf && boxHolds t p d z_of) _ _ _ _
+pub rule-parts : (t : Triangle) (p d : Point) → overlaps_box t p d ≡ (box_holds t p d x_of && box_holds t p d y_of && box_holds t p d z_of && forms_hold t p d)
+unfolding overlaps_box forms_hold
+rule-parts t p d = five (box_holds t p d x_of && box_holds t p d y_of && box_holds t p d z_of) _ _ _ _
 
 -- ---- the triangle's edges lie in its plane, and so do its corners
 module _ (t : Triangle) where
@@ -96,7 +96,7 @@ shift a b o = ring (a ∷ b ∷ o ∷ []) (var 0 ⊖ var 1) (var 0 ⊖ var 2 ⊖
 moved : (a b o : Point) → minus a b ≡ minus (minus a o) (minus b o)
 moved a b o = λ l. point (shift a.x b.x o.x l) (shift a.y b.y o.y l) (shift a.z b.z o.z l)
 
-pub normal-moved : (o : Point) (t : Triangle) → normal t ≡ normal (measuredFrom o t)
+pub normal-moved : (o : Point) (t : Triangle) → normal t ≡ normal (measured_from o t)
 normal-moved o t = λ l. cross (moved t.v1 t.v0 o l) (moved t.v2 t.v0 o l)
 
 -- ---- one edge, from the corner v to the corner w
@@ -118,34 +118,34 @@ module _ (t : Triangle) (l : Lattice) (positive : pos 0 ≤ℤ l.extent) (i j k 
   d = l.extent
 
   abbrev p : Point
-  p = boxCorner l i j k
+  p = box_corner l i j k
 
   -- its forms, before the corners are measured from the lattice's first box
-  abbrev formsBy : (n e : Point) → Edge
-  formsBy n e = record {
-    uv = edgeForm n.z e.x e.y (v.x -ℤ o.x) (v.y -ℤ o.y) s d;
-    vw = edgeForm n.x e.y e.z (v.y -ℤ o.y) (v.z -ℤ o.z) s d;
-    wu = edgeForm n.y e.z e.x (v.z -ℤ o.z) (v.x -ℤ o.x) s d;
-    inside = insideFrom n.z e.x e.y d;
+  abbrev forms_by : (n e : Point) → Edge
+  forms_by n e = record {
+    uv = edge_form n.z e.x e.y (v.x -ℤ o.x) (v.y -ℤ o.y) s d;
+    vw = edge_form n.x e.y e.z (v.y -ℤ o.y) (v.z -ℤ o.z) s d;
+    wu = edge_form n.y e.z e.x (v.z -ℤ o.z) (v.x -ℤ o.x) s d;
+    inside = inside_from n.z e.x e.y d;
   }
 
   abbrev edge : Edge
-  edge = formsBy n e
+  edge = forms_by n e
 
-  forms-moved : edge ≡ edgeBetween (normal (measuredFrom o t)) (minus v o) (minus w o) s d
-  forms-moved = λ q. formsBy (normal-moved o t q) (moved w v o q)
+  forms-moved : edge ≡ edge_between (normal (measured_from o t)) (minus v o) (minus w o) s d
+  forms-moved = λ q. forms_by (normal-moved o t q) (moved w v o q)
 
   -- the rule's values of the edge, in three planes
   abbrev xy : ℤ
-  xy = edgeIn n.z e.x e.y v.x v.y p.x p.y d
+  xy = edge_in n.z e.x e.y v.x v.y p.x p.y d
 
   abbrev yz : ℤ
-  yz = edgeIn n.x e.y e.z v.y v.z p.y p.z d
+  yz = edge_in n.x e.y e.z v.y v.z p.y p.z d
 
   abbrev zx : ℤ
-  zx = edgeIn n.y e.z e.x v.z v.x p.z p.x d
+  zx = edge_in n.y e.z e.x v.z v.x p.z p.x d
 
-  xy-is : xy ≡ uvOf edge (pos i) (pos j)
+  xy-is : xy ≡ uv_of edge (pos i) (pos j)
   xy-is = edge-value n.z e.x e.y v.x v.y o.x o.y s positive (pos i) (pos j)
 
   yz-is : le_z (pos 0) yz ≡ passes edge.vw.b (edge.vw.a *ℤ pos j +ℤ edge.vw.c) k
@@ -163,16 +163,16 @@ module _ (t : Triangle) (l : Lattice) (positive : pos 0 ≤ℤ l.extent) (i j k 
       ∙ ring (f.a ∷ f.b ∷ f.c ∷ pos i ∷ pos k ∷ []) (var 0 ⊗ var 4 ⊕ var 1 ⊗ var 3 ⊕ var 2) (var 0 ⊗ var 4 ⊕ (var 1 ⊗ var 3 ⊕ var 2)) tt)
 
   -- where the square is inside of the edge, the plane's box needs no other test of it; no square is, where the normal is 0 on the third axis
-  spared : xy <ℤ pos insideMax → Spares (planeHolds t p (cube d)) (le_z edge.inside xy) (le_z (pos 0) yz) (le_z (pos 0) zx)
+  spared : xy <ℤ pos inside_max → Spares (plane_holds t p (cube d)) (le_z edge.inside xy) (le_z (pos 0) yz) (le_z (pos 0) zx)
   spared small plane inside = go (le_z (pos (nat_abs n.z)) (pos 0)) refl inside
     where
-      never : {x : ℤ} → x <ℤ pos insideMax → le_z (pos insideMax) x ≡ true → ⊥
+      never : {x : ℤ} → x <ℤ pos inside_max → le_z (pos inside_max) x ≡ true → ⊥
       never h k = omega zarith
 
       steep : le_z (pos (nat_abs n.z)) (pos 0) ≡ false → n.z ≡ pos 0 → ⊥
       steep h k = let z : nat_abs n.z ≡ 0 = ap nat_abs k in omega zarith
 
-      go : (b : Bool) → le_z (pos (nat_abs n.z)) (pos 0) ≡ b → le_z (cond b (pos insideMax) (d *ℤ (pos (nat_abs e.x) +ℤ pos (nat_abs e.y)))) xy ≡ true
+      go : (b : Bool) → le_z (pos (nat_abs n.z)) (pos 0) ≡ b → le_z (cond b (pos inside_max) (d *ℤ (pos (nat_abs e.x) +ℤ pos (nat_abs e.y)))) xy ≡ true
           → (le_z (pos 0) yz ≡ true) × (le_z (pos 0) zx ≡ true)
       go true f h = absurd (never small h)
       go false f h =
@@ -182,24 +182,24 @@ module _ (t : Triangle) (l : Lattice) (positive : pos 0 ≤ℤ l.extent) (i j k 
           )
 
   -- the edge along the column
-  along-column : (le_z edge.inside xy || (le_z (pos 0) yz && le_z (pos 0) zx)) ≡ edgePasses edge (pos i) (pos j) (uvOf edge (pos i) (pos j)) k
+  along-column : (le_z edge.inside xy || (le_z (pos 0) yz && le_z (pos 0) zx)) ≡ edge_passes edge (pos i) (pos j) (uv_of edge (pos i) (pos j)) k
   along-column = λ q. le_z edge.inside (xy-is q) || (yz-is q && zx-is q)
 
 -- ---- the law
 module _ (t : Triangle) (l : Lattice) (positive : pos 0 ≤ℤ l.extent) (i j k : ℕ) where
   abbrev t' : Triangle
-  t' = measuredFrom l.first t
+  t' = measured_from l.first t
 
   abbrev edge_of : (v w : Point) → Edge
-  edge_of v w = edgeBetween (normal t') v w l.step l.extent
+  edge_of v w = edge_between (normal t') v w l.step l.extent
 
   abbrev Small : Edge → Type 0
-  Small e = uvOf e (pos i) (pos j) <ℤ pos insideMax
+  Small e = uv_of e (pos i) (pos j) <ℤ pos inside_max
 
   pub column-law : Small (edge_of t'.v0 t'.v1) → Small (edge_of t'.v1 t'.v2) → Small (edge_of t'.v2 t'.v0)
-      → formsHold t (boxCorner l i j k) (cube l.extent)
-      ≡ columnTest (planeForm (normal t') t'.v0 l.step l.extent) (edge_of t'.v0 t'.v1) (edge_of t'.v1 t'.v2) (edge_of t'.v2 t'.v0) (pos i) (pos j) k
-  unfolding formsHold columnTest
+      → forms_hold t (box_corner l i j k) (cube l.extent)
+      ≡ column_test (plane_form (normal t') t'.v0 l.step l.extent) (edge_of t'.v0 t'.v1) (edge_of t'.v1 t'.v2) (edge_of t'.v2 t'.v0) (pos i) (pos j) k
+  unfolding forms_hold column_test
   column-law s0 s1 s2 =
       all plane (le_z (pos 0) x0 && le_z (pos 0) x1 && le_z (pos 0) x2)
       (spared t l positive i j k t.v0 t.v1 (along0 t) refl (small t.v0 t.v1 (along0 t) refl s0))
@@ -214,15 +214,15 @@ module _ (t : Triangle) (l : Lattice) (positive : pos 0 ≤ℤ l.extent) (i j k 
       let e0 = forms-moved t l positive i j k t.v0 t.v1 (along0 t) refl q in
       let e1 = forms-moved t l positive i j k t.v1 t.v2 (along1 t) (through1 t) q in
       let e2 = forms-moved t l positive i j k t.v2 t.v0 (along2 t) (through2 t) q in
-      let x = uvOf e0 (pos i) (pos j) in
-      let y = uvOf e1 (pos i) (pos j) in
-      let z = uvOf e2 (pos i) (pos j) in
+      let x = uv_of e0 (pos i) (pos j) in
+      let y = uv_of e1 (pos i) (pos j) in
+      let z = uv_of e2 (pos i) (pos j) in
       (le_z (pos 0) x && le_z (pos 0) y && le_z (pos 0) z)
-      && (planePasses (planeForm (normal-moved l.first t q) t'.v0 l.step l.extent) (pos i) (pos j) k && edgePasses e0 (pos i) (pos j) x k
-      && edgePasses e1 (pos i) (pos j) y k && edgePasses e2 (pos i) (pos j) z k))
+      && (plane_passes (plane_form (normal-moved l.first t q) t'.v0 l.step l.extent) (pos i) (pos j) k && edge_passes e0 (pos i) (pos j) x k
+      && edge_passes e1 (pos i) (pos j) y k && edge_passes e2 (pos i) (pos j) z k))
     where
       plane : Bool
-      plane = planeHolds t (boxCorner l i j k) (cube l.extent)
+      plane = plane_holds t (box_corner l i j k) (cube l.extent)
 
       x0 : ℤ
       x0 = xy t l positive i j k t.v0 t.v1 (along0 t) refl
@@ -234,7 +234,7 @@ module _ (t : Triangle) (l : Lattice) (positive : pos 0 ≤ℤ l.extent) (i j k 
       x2 = xy t l positive i j k t.v2 t.v0 (along2 t) (through2 t)
 
       small : (v w : Point) (a : dot (normal t) (minus w v) ≡ pos 0) (b : dot (normal t) v ≡ dot (normal t) t.v0)
-          → Small (edge_of (minus v l.first) (minus w l.first)) → xy t l positive i j k v w a b <ℤ pos insideMax
+          → Small (edge_of (minus v l.first) (minus w l.first)) → xy t l positive i j k v w a b <ℤ pos inside_max
       small v w a b h =
-          subst (λ z. z <ℤ pos insideMax)
-          (sym (xy-is t l positive i j k v w a b ∙ ap (λ (e : Edge). uvOf e (pos i) (pos j)) (forms-moved t l positive i j k v w a b))) h
+          subst (λ z. z <ℤ pos inside_max)
+          (sym (xy-is t l positive i j k v w a b ∙ ap (λ (e : Edge). uv_of e (pos i) (pos j)) (forms-moved t l positive i j k v w a b))) h

@@ -8,23 +8,23 @@ use mathlib.Core.List.{[], ◌∷◌}
 use Prim.Native.Nat.{ℕ}
 use lib.IntN.{ℤ, pos, ◌+ℤ◌, ◌*ℤ◌}
 use lib.Signed.{le_z}
-use Rattle.integers.specs.Order.{minℤ, maxℤ}
+use Rattle.integers.specs.Order.{min_ℤ, max_ℤ}
 use Rattle.integers.proofs.Expr.{var, ◌⊕◌}
 use Rattle.integers.proofs.Ring.{ring}
 use Rattle.geometry.specs.declared.Point.{Point}
 use Rattle.geometry.specs.declared.Triangle.{Triangle}
-use Rattle.geometry.specs.Geometry.{dot, minus, cube, xOf, yOf, z_of}
+use Rattle.geometry.specs.Geometry.{dot, minus, cube, x_of, y_of, z_of}
 use Rattle.grid.specs.declared.Lattice.{Lattice}
-use Rattle.overlap.specs.Rule.{normal, boxHolds, planeHolds, edgesHold, overlapsBox}
+use Rattle.overlap.specs.Rule.{normal, box_holds, plane_holds, edges_hold, overlaps_box}
 use Rattle.overlap.proofs.Corners.{least8-sum, greatest8-sum}
 use Rattle.grid.specs.declared.BoxRange.{BoxRange}
 use Rattle.ranges.specs.Range.{PicksBox}
-use Rattle.column_rule.specs.Turn.{turnPoint, turnTriangle, turnLattice, turnBox}
+use Rattle.column_rule.specs.Turn.{turn_point, turn_triangle, turn_lattice, turn_box}
 
 module _ (t : Triangle) (p : Point) (d : ℤ) where
   -- a sum over the three axes
   sum-turned : (op : ℤ → ℤ → ℤ) → let n = normal t in let q = minus p t.v0 in
-      dot (turnPoint n) (turnPoint q) +ℤ op (pos 0) (d *ℤ n.y) +ℤ op (pos 0) (d *ℤ n.z) +ℤ op (pos 0) (d *ℤ n.x)
+      dot (turn_point n) (turn_point q) +ℤ op (pos 0) (d *ℤ n.y) +ℤ op (pos 0) (d *ℤ n.z) +ℤ op (pos 0) (d *ℤ n.x)
       ≡ dot n q +ℤ op (pos 0) (d *ℤ n.x) +ℤ op (pos 0) (d *ℤ n.y) +ℤ op (pos 0) (d *ℤ n.z)
   sum-turned op =
       let n = normal t in
@@ -32,13 +32,13 @@ module _ (t : Triangle) (p : Point) (d : ℤ) where
       ring ((n.x *ℤ q.x) ∷ (n.y *ℤ q.y) ∷ (n.z *ℤ q.z) ∷ op (pos 0) (d *ℤ n.x) ∷ op (pos 0) (d *ℤ n.y) ∷ op (pos 0) (d *ℤ n.z) ∷ [])
       (var 1 ⊕ var 2 ⊕ var 0 ⊕ var 4 ⊕ var 5 ⊕ var 3) (var 0 ⊕ var 1 ⊕ var 2 ⊕ var 3 ⊕ var 4 ⊕ var 5) tt
 
-  plane-turned : planeHolds (turnTriangle t) (turnPoint p) (cube d) ≡ planeHolds t p (cube d)
+  plane-turned : plane_holds (turn_triangle t) (turn_point p) (cube d) ≡ plane_holds t p (cube d)
   plane-turned =
-      let t' = turnTriangle t in
-      let p' = turnPoint p in
+      let t' = turn_triangle t in
+      let p' = turn_point p in
       ap₂ ◌&&◌
-      (ap (λ (z : ℤ). le_z z (pos 0)) (least8-sum t' p' (cube d) ∙ sum-turned minℤ ∙ sym (least8-sum t p (cube d))))
-      (ap (le_z (pos 0)) (greatest8-sum t' p' (cube d) ∙ sum-turned maxℤ ∙ sym (greatest8-sum t p (cube d))))
+      (ap (λ (z : ℤ). le_z z (pos 0)) (least8-sum t' p' (cube d) ∙ sum-turned min_ℤ ∙ sym (least8-sum t p (cube d))))
+      (ap (le_z (pos 0)) (greatest8-sum t' p' (cube d) ∙ sum-turned max_ℤ ∙ sym (greatest8-sum t p (cube d))))
 
   last-first : (a b c : Bool) → (b && c && a) ≡ (a && b && c)
   last-first a b c = and_comm (b && c) a ∙ sym (and_assoc a b c)
@@ -47,19 +47,19 @@ module _ (t : Triangle) (p : Point) (d : ℤ) where
   last-first-with true a b c = last-first a b c
   last-first-with false a b c = refl
 
-  pub turn-rule : overlapsBox (turnTriangle t) (turnPoint p) (cube d) ≡ overlapsBox t p (cube d)
-  unfolding overlapsBox
+  pub turn-rule : overlaps_box (turn_triangle t) (turn_point p) (cube d) ≡ overlaps_box t p (cube d)
+  unfolding overlaps_box
   turn-rule =
-      let x = boxHolds t p (cube d) xOf in
-      let y = boxHolds t p (cube d) yOf in
-      let z = boxHolds t p (cube d) z_of in
+      let x = box_holds t p (cube d) x_of in
+      let y = box_holds t p (cube d) y_of in
+      let z = box_holds t p (cube d) z_of in
       let n = normal t in
-      let xy = edgesHold t p (cube d) xOf yOf n.z in
-      let yz = edgesHold t p (cube d) yOf z_of n.x in
-      let zx = edgesHold t p (cube d) z_of xOf n.y in
+      let xy = edges_hold t p (cube d) x_of y_of n.z in
+      let yz = edges_hold t p (cube d) y_of z_of n.x in
+      let zx = edges_hold t p (cube d) z_of x_of n.y in
       (λ i. last-first x y z i && plane-turned i && yz && zx && xy)
-      ∙ last-first-with (x && y && z && planeHolds t p (cube d)) xy yz zx
+      ∙ last-first-with (x && y && z && plane_holds t p (cube d)) xy yz zx
 
 pub turn-picks : {t : Triangle} {l : Lattice} {nx ny nz : ℕ} {r : BoxRange} → PicksBox t l nx ny nz r
-    → PicksBox (turnTriangle t) (turnLattice l) ny nz nx (turnBox r)
+    → PicksBox (turn_triangle t) (turn_lattice l) ny nz nx (turn_box r)
 turn-picks p = record { x = p.y; y = p.z; z = p.x }

@@ -8,7 +8,7 @@ use mathlib.Core.List.{List, [], ◌∷◌}
 use Prim.Native.Nat.{ℕ}
 use lib.IntN.{ℤ, pos, neg_ℤ, nat_abs, ◌+ℤ◌, ◌-ℤ◌, ◌*ℤ◌}
 use lib.Signed.{◌≤ℤ◌, le_z, lt_z}
-use Rattle.integers.specs.Order.{minℤ, maxℤ}
+use Rattle.integers.specs.Order.{min_ℤ, max_ℤ}
 use Rattle.integers.proofs.Omega.{zarith, +!, -!, neg!, abs! }
 use Rattle.integers.proofs.Expr.{Expr, var, num, neg, ◌⊕◌, ◌⊖◌, ◌⊗◌}
 use Rattle.integers.proofs.Ring.{ring}
@@ -19,23 +19,23 @@ use Rattle.geometry.specs.declared.Point.{Point}
 use Rattle.geometry.specs.declared.Triangle.{Triangle}
 use Rattle.geometry.specs.Geometry.{dot, minus, cube}
 use Rattle.grid.specs.declared.Lattice.{Lattice}
-use Rattle.grid.specs.Grid.{boxCorner}
-use Rattle.overlap.specs.Rule.{normal, turned, planeHolds}
+use Rattle.grid.specs.Grid.{box_corner}
+use Rattle.overlap.specs.Rule.{normal, turned, plane_holds}
 use Rattle.overlap.proofs.Corners.{least8-sum, greatest8-sum}
-use Rattle.forms.specs.Triangle.{edgeForm, planeForm}
-use Rattle.runs.specs.Run.{formAt}
+use Rattle.forms.specs.Triangle.{edge_form, plane_form}
+use Rattle.runs.specs.Run.{form_at}
 use Rattle.integers.proofs.Truth.{same_truth}
-use Rattle.column_rule.specs.Column.{planePasses}
-use Rattle.column_rule.proofs.Edge.{edgeIn}
+use Rattle.column_rule.specs.Column.{plane_passes}
+use Rattle.column_rule.proofs.Edge.{edge_in}
 
 -- ---- an edge, in the plane of two axes: the box has the numbers i and j there, in a lattice that begins at (oa, ob)
-pub edge-value : (n ea eb va vb oa ob s : ℤ) {d : ℤ} → pos 0 ≤ℤ d → (i j : ℤ) → let f = edgeForm n ea eb (va -ℤ oa) (vb -ℤ ob) s d in
-    edgeIn n ea eb va vb (oa +ℤ i *ℤ s) (ob +ℤ j *ℤ s) d ≡ f.a *ℤ i +ℤ f.b *ℤ j +ℤ f.c
+pub edge-value : (n ea eb va vb oa ob s : ℤ) {d : ℤ} → pos 0 ≤ℤ d → (i j : ℤ) → let f = edge_form n ea eb (va -ℤ oa) (vb -ℤ ob) s d in
+    edge_in n ea eb va vb (oa +ℤ i *ℤ s) (ob +ℤ j *ℤ s) d ≡ f.a *ℤ i +ℤ f.b *ℤ j +ℤ f.c
 edge-value n ea eb va vb oa ob s {d} h i j =
     let ma = turned n (neg_ℤ eb) in
     let mb = turned n ea in
     (λ l. ma *ℤ (oa +ℤ i *ℤ s) +ℤ mb *ℤ (ob +ℤ j *ℤ s) -ℤ (ma *ℤ va +ℤ mb *ℤ vb) +ℤ max-scale ma h l +ℤ max-scale mb h l)
-    ∙ ring (ma ∷ mb ∷ va ∷ vb ∷ i ∷ j ∷ maxℤ (pos 0) ma ∷ maxℤ (pos 0) mb ∷ oa ∷ ob ∷ s ∷ d ∷ [])
+    ∙ ring (ma ∷ mb ∷ va ∷ vb ∷ i ∷ j ∷ max_ℤ (pos 0) ma ∷ max_ℤ (pos 0) mb ∷ oa ∷ ob ∷ s ∷ d ∷ [])
     (var 0 ⊗ (var 8 ⊕ var 4 ⊗ var 10) ⊕ var 1 ⊗ (var 9 ⊕ var 5 ⊗ var 10) ⊖ (var 0 ⊗ var 2 ⊕ var 1 ⊗ var 3) ⊕ var 11 ⊗ var 6 ⊕ var 11 ⊗ var 7)
     (var 10 ⊗ var 0 ⊗ var 4 ⊕ var 10 ⊗ var 1 ⊗ var 5 ⊕ (var 11 ⊗ (var 6 ⊕ var 7) ⊖ (var 0 ⊗ (var 2 ⊖ var 8) ⊕ var 1 ⊗ (var 3 ⊖ var 9))))
     tt
@@ -55,22 +55,22 @@ module _ (A B F R : ℤ) where
 
 -- the numbers of a component of the normal
 module _ (x : ℤ) where
-  size_is : pos (nat_abs x) ≡ maxℤ (pos 0) x -ℤ minℤ (pos 0) x
+  size_is : pos (nat_abs x) ≡ max_ℤ (pos 0) x -ℤ min_ℤ (pos 0) x
   size_is = sym (spread x)
 
-  size-negated : pos (nat_abs (neg_ℤ x)) ≡ maxℤ (pos 0) x -ℤ minℤ (pos 0) x
-  size-negated = omega (zarith, neg! x, abs! (neg_ℤ x), max! (pos 0) x, min! (pos 0) x, -! (maxℤ (pos 0) x) (minℤ (pos 0) x))
+  size-negated : pos (nat_abs (neg_ℤ x)) ≡ max_ℤ (pos 0) x -ℤ min_ℤ (pos 0) x
+  size-negated = omega (zarith, neg! x, abs! (neg_ℤ x), max! (pos 0) x, min! (pos 0) x, -! (max_ℤ (pos 0) x) (min_ℤ (pos 0) x))
 
-  max-negated : maxℤ (pos 0) (neg_ℤ x) ≡ neg_ℤ (minℤ (pos 0) x)
-  max-negated = omega (zarith, neg! x, neg! (minℤ (pos 0) x), max! (pos 0) (neg_ℤ x), min! (pos 0) x)
+  max-negated : max_ℤ (pos 0) (neg_ℤ x) ≡ neg_ℤ (min_ℤ (pos 0) x)
+  max-negated = omega (zarith, neg! x, neg! (min_ℤ (pos 0) x), max! (pos 0) (neg_ℤ x), min! (pos 0) x)
 
-  sum_is : maxℤ (pos 0) x +ℤ minℤ (pos 0) x ≡ x
-  sum_is = omega (zarith, max! (pos 0) x, min! (pos 0) x, +! (maxℤ (pos 0) x) (minℤ (pos 0) x))
+  sum_is : max_ℤ (pos 0) x +ℤ min_ℤ (pos 0) x ≡ x
+  sum_is = omega (zarith, max! (pos 0) x, min! (pos 0) x, +! (max_ℤ (pos 0) x) (min_ℤ (pos 0) x))
 
-  least-of : lt_z x (pos 0) ≡ false → minℤ (pos 0) x ≡ pos 0
+  least-of : lt_z x (pos 0) ≡ false → min_ℤ (pos 0) x ≡ pos 0
   least-of h = omega (zarith, min! (pos 0) x)
 
-  greatest-of : lt_z x (pos 0) ≡ true → maxℤ (pos 0) x ≡ pos 0
+  greatest-of : lt_z x (pos 0) ≡ true → max_ℤ (pos 0) x ≡ pos 0
   greatest-of h = omega (zarith, max! (pos 0) x)
 
 module _ (t : Triangle) (l : Lattice) (positive : pos 0 ≤ℤ l.extent) (i j k : ℕ) where
@@ -87,16 +87,16 @@ module _ (t : Triangle) (l : Lattice) (positive : pos 0 ≤ℤ l.extent) (i j k 
   d = l.extent
 
   abbrev p : Point
-  p = boxCorner l i j k
+  p = box_corner l i j k
 
   -- the greatest and the least value over the box's corners
   abbrev A : ℤ
-  A = dot n (minus p v) +ℤ d *ℤ maxℤ (pos 0) n.x +ℤ d *ℤ maxℤ (pos 0) n.y +ℤ d *ℤ maxℤ (pos 0) n.z
+  A = dot n (minus p v) +ℤ d *ℤ max_ℤ (pos 0) n.x +ℤ d *ℤ max_ℤ (pos 0) n.y +ℤ d *ℤ max_ℤ (pos 0) n.z
 
   abbrev B : ℤ
-  B = dot n (minus p v) +ℤ d *ℤ minℤ (pos 0) n.x +ℤ d *ℤ minℤ (pos 0) n.y +ℤ d *ℤ minℤ (pos 0) n.z
+  B = dot n (minus p v) +ℤ d *ℤ min_ℤ (pos 0) n.x +ℤ d *ℤ min_ℤ (pos 0) n.y +ℤ d *ℤ min_ℤ (pos 0) n.z
 
-  by-sums : planeHolds t p (cube d) ≡ (le_z B (pos 0) && le_z (pos 0) A)
+  by-sums : plane_holds t p (cube d) ≡ (le_z B (pos 0) && le_z (pos 0) A)
   by-sums =
       let D = dot n (minus p v) in
       ap₂ ◌&&◌
@@ -106,8 +106,8 @@ module _ (t : Triangle) (l : Lattice) (positive : pos 0 ≤ℤ l.extent) (i j k 
   -- nx ny nz, vx vy vz, ox oy oz, i j k, s d, then for each component the greater and the lesser, and two further numbers for x and for y
   abbrev ρ : (ax ay mx my : ℤ) → List ℤ
   ρ ax ay mx my =
-      n.x ∷ n.y ∷ n.z ∷ v.x ∷ v.y ∷ v.z ∷ o.x ∷ o.y ∷ o.z ∷ pos i ∷ pos j ∷ pos k ∷ l.step ∷ d ∷ maxℤ (pos 0) n.x ∷ minℤ (pos 0) n.x ∷ maxℤ (pos 0) n.y
-      ∷ minℤ (pos 0) n.y ∷ maxℤ (pos 0) n.z ∷ minℤ (pos 0) n.z ∷ ax ∷ ay ∷ mx ∷ my ∷ []
+      n.x ∷ n.y ∷ n.z ∷ v.x ∷ v.y ∷ v.z ∷ o.x ∷ o.y ∷ o.z ∷ pos i ∷ pos j ∷ pos k ∷ l.step ∷ d ∷ max_ℤ (pos 0) n.x ∷ min_ℤ (pos 0) n.x ∷ max_ℤ (pos 0) n.y
+      ∷ min_ℤ (pos 0) n.y ∷ max_ℤ (pos 0) n.z ∷ min_ℤ (pos 0) n.z ∷ ax ∷ ay ∷ mx ∷ my ∷ []
 
   abbrev sumᴱ : (x y z : Expr) → Expr
   sumᴱ x y z =
@@ -130,14 +130,14 @@ module _ (t : Triangle) (l : Lattice) (positive : pos 0 ≤ℤ l.extent) (i j k 
 
   abbrev X : (sx sy sz mx my : ℤ) → ℤ
   X x y z mx my =
-      formAt (l.step *ℤ z) (d *ℤ (mx +ℤ my +ℤ z) -ℤ (x *ℤ (v.x -ℤ o.x) +ℤ y *ℤ (v.y -ℤ o.y) +ℤ z *ℤ (v.z -ℤ o.z)) +ℤ l.step *ℤ x *ℤ pos i +ℤ l.step *ℤ y *ℤ pos j) k
+      form_at (l.step *ℤ z) (d *ℤ (mx +ℤ my +ℤ z) -ℤ (x *ℤ (v.x -ℤ o.x) +ℤ y *ℤ (v.y -ℤ o.y) +ℤ z *ℤ (v.z -ℤ o.z)) +ℤ l.step *ℤ x *ℤ pos i +ℤ l.step *ℤ y *ℤ pos j) k
 
   module _ (up : lt_z n.z (pos 0) ≡ false) where
     abbrev ρ⁺ : List ℤ
-    ρ⁺ = ρ (pos (nat_abs n.x)) (pos (nat_abs n.y)) (maxℤ (pos 0) n.x) (maxℤ (pos 0) n.y)
+    ρ⁺ = ρ (pos (nat_abs n.x)) (pos (nat_abs n.y)) (max_ℤ (pos 0) n.x) (max_ℤ (pos 0) n.y)
 
     abbrev F⁺ : ℤ
-    F⁺ = X n.x n.y n.z (maxℤ (pos 0) n.x) (maxℤ (pos 0) n.y)
+    F⁺ = X n.x n.y n.z (max_ℤ (pos 0) n.x) (max_ℤ (pos 0) n.y)
 
     abbrev R⁺ : ℤ
     R⁺ = d *ℤ (pos (nat_abs n.x) +ℤ pos (nat_abs n.y) +ℤ n.z)
@@ -156,10 +156,10 @@ module _ (t : Triangle) (l : Lattice) (positive : pos 0 ≤ℤ l.extent) (i j k 
 
   module _ (down : lt_z n.z (pos 0) ≡ true) where
     abbrev ρ⁻ : List ℤ
-    ρ⁻ = ρ (pos (nat_abs (neg_ℤ n.x))) (pos (nat_abs (neg_ℤ n.y))) (maxℤ (pos 0) (neg_ℤ n.x)) (maxℤ (pos 0) (neg_ℤ n.y))
+    ρ⁻ = ρ (pos (nat_abs (neg_ℤ n.x))) (pos (nat_abs (neg_ℤ n.y))) (max_ℤ (pos 0) (neg_ℤ n.x)) (max_ℤ (pos 0) (neg_ℤ n.y))
 
     abbrev F⁻ : ℤ
-    F⁻ = X (neg_ℤ n.x) (neg_ℤ n.y) (neg_ℤ n.z) (maxℤ (pos 0) (neg_ℤ n.x)) (maxℤ (pos 0) (neg_ℤ n.y))
+    F⁻ = X (neg_ℤ n.x) (neg_ℤ n.y) (neg_ℤ n.z) (max_ℤ (pos 0) (neg_ℤ n.x)) (max_ℤ (pos 0) (neg_ℤ n.y))
 
     abbrev R⁻ : ℤ
     R⁻ = d *ℤ (pos (nat_abs (neg_ℤ n.x)) +ℤ pos (nat_abs (neg_ℤ n.y)) +ℤ neg_ℤ n.z)
@@ -177,10 +177,10 @@ module _ (t : Triangle) (l : Lattice) (positive : pos 0 ≤ℤ l.extent) (i j k 
         ⊹ ze (num 0 ⊖ var 13) (var 20) (var 14 ⊖ var 15) (size-negated n.x) ⊹ ze (num 0 ⊖ var 13) (var 21) (var 16 ⊖ var 17) (size-negated n.y)
         ⊹ ze (var 13) (var 18) (num 0) (greatest-of n.z down)) tt
 
-  pub plane-slab : planeHolds t p (cube d) ≡ planePasses (planeForm n (minus v o) l.step d) (pos i) (pos j) k
+  pub plane-slab : plane_holds t p (cube d) ≡ plane_passes (plane_form n (minus v o) l.step d) (pos i) (pos j) k
   plane-slab = by-sums ∙ go (lt_z n.z (pos 0)) refl
     where
       go : (t : Bool) → lt_z n.z (pos 0) ≡ t → let x = cond t (neg_ℤ n.x) n.x in let y = cond t (neg_ℤ n.y) n.y in let z = cond t (neg_ℤ n.z) n.z in
-          (le_z B (pos 0) && le_z (pos 0) A) ≡ (le_z (pos 0) (X x y z (maxℤ (pos 0) x) (maxℤ (pos 0) y)) && le_z (X x y z (maxℤ (pos 0) x) (maxℤ (pos 0) y)) (d *ℤ (pos (nat_abs x) +ℤ pos (nat_abs y) +ℤ z)))
+          (le_z B (pos 0) && le_z (pos 0) A) ≡ (le_z (pos 0) (X x y z (max_ℤ (pos 0) x) (max_ℤ (pos 0) y)) && le_z (X x y z (max_ℤ (pos 0) x) (max_ℤ (pos 0) y)) (d *ℤ (pos (nat_abs x) +ℤ pos (nat_abs y) +ℤ z)))
       go true e = slab-down A B (F⁻ e) (R⁻ e) (least⁻ e) (greatest⁻ e)
       go false e = slab-up A B (F⁺ e) (R⁺ e) (greatest⁺ e) (least⁺ e)

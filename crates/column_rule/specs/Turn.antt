@@ -5,14 +5,14 @@ use Rattle.geometry.specs.Geometry.{point}
 use Rattle.grid.specs.declared.Lattice.{Lattice}
 use Rattle.grid.specs.declared.BoxRange.{BoxRange}
 
-abbrev pub turnPoint : Point → Point
-turnPoint p = point p.y p.z p.x
+abbrev pub turn_point : Point → Point
+turn_point p = point p.y p.z p.x
 
-abbrev pub turnTriangle : Triangle → Triangle
-turnTriangle t = record { v0 = turnPoint t.v0; v1 = turnPoint t.v1; v2 = turnPoint t.v2 }
+abbrev pub turn_triangle : Triangle → Triangle
+turn_triangle t = record { v0 = turn_point t.v0; v1 = turn_point t.v1; v2 = turn_point t.v2 }
 
-abbrev pub turnLattice : Lattice → Lattice
-turnLattice l = record { first = turnPoint l.first; step = l.step; extent = l.extent }
+abbrev pub turn_lattice : Lattice → Lattice
+turn_lattice l = record { first = turn_point l.first; step = l.step; extent = l.extent }
 
-abbrev pub turnBox : BoxRange → BoxRange
-turnBox b = record { x = b.y; y = b.z; z = b.x }
+abbrev pub turn_box : BoxRange → BoxRange
+turn_box b = record { x = b.y; y = b.z; z = b.x }

@@ -24,10 +24,10 @@ use Rattle.integers.proofs.Bounds.{within-add, within-mul, within-weaken}
 use Rattle.grid.specs.declared.CellRange.{CellRange}
 use Rattle.grid.specs.Range.{in_range}
 use Rattle.forms.specs.Form.{edge_at, BoundedForm}
-use Rattle.column_rule.specs.Column.{uvOf, squarePasses}
+use Rattle.column_rule.specs.Column.{uv_of, square_passes}
 use Rattle.columns.specs.declared.Strides.{Strides}
-use Rattle.columns.specs.Draw.{oneColumn, row_of, rectangle, range}
-use Rattle.columns.specs.Column.{value_at, valueMax, columnPasses, cellPasses, runCells, ColumnsReady, DrawsColumns}
+use Rattle.columns.specs.Draw.{one_column, row_of, rectangle, range}
+use Rattle.columns.specs.Column.{value_at, value_max, column_passes, cell_passes, run_cells, ColumnsReady, DrawsColumns}
 use Rattle.columns.proofs.Drawing.{of-column, draws-nothing, draws-then, drawn-or}
 use Rattle.integers.proofs.Truth.{same_truth}
 use Rattle.runs.proofs.Narrow.{in-range, range-in}
@@ -40,47 +40,47 @@ pub positive : (x : ℤ) → lt_z x (pos 0) ≡ false → le_z (pos 0) x ≡ tru
 positive x e = omega zarith
 
 module _ (x0 x1 x2 : ℤ) where
-  pub square-0 : lt_z x0 (pos 0) ≡ true → squarePasses x0 x1 x2 ≡ false
+  pub square-0 : lt_z x0 (pos 0) ≡ true → square_passes x0 x1 x2 ≡ false
   square-0 e = ap (λ (b : Bool). b && le_z (pos 0) x1 && le_z (pos 0) x2) (negative x0 e)
 
-  pub square-1 : lt_z x1 (pos 0) ≡ true → squarePasses x0 x1 x2 ≡ false
+  pub square-1 : lt_z x1 (pos 0) ≡ true → square_passes x0 x1 x2 ≡ false
   square-1 e =
       ap (λ (b : Bool). le_z (pos 0) x0 && b && le_z (pos 0) x2) (negative x1 e) ∙ ap (λ (b : Bool). b && le_z (pos 0) x2) (and-false (le_z (pos 0) x0))
 
-  pub square-2 : lt_z x0 (pos 0) ≡ false → lt_z x1 (pos 0) ≡ false → squarePasses x0 x1 x2 ≡ le_z (pos 0) x2
+  pub square-2 : lt_z x0 (pos 0) ≡ false → lt_z x1 (pos 0) ≡ false → square_passes x0 x1 x2 ≡ le_z (pos 0) x2
   square-2 e f = λ i. positive x0 e i && positive x1 f i && le_z (pos 0) x2
 
 -- ---- an edge's value of a column, and of the next on u
-pub next-value : (l : List ℤ) (m a : ℕ) (v : ℤ) → uvOf (edge_at l m) (pos a) v +ℤ (edge_at l m).uv.a ≡ uvOf (edge_at l m) (pos (a + 1)) v
+pub next-value : (l : List ℤ) (m a : ℕ) (v : ℤ) → uv_of (edge_at l m) (pos a) v +ℤ (edge_at l m).uv.a ≡ uv_of (edge_at l m) (pos (a + 1)) v
 next-value l m a v =
     let f = (edge_at l m).uv in
     ring (f.a ∷ f.b ∷ f.c ∷ pos a ∷ v ∷ []) (var 0 ⊗ var 3 ⊕ var 1 ⊗ var 4 ⊕ var 2 ⊕ var 0) (var 0 ⊗ (var 3 ⊕ num 1) ⊕ var 1 ⊗ var 4 ⊕ var 2) tt
 
-pub value-within : (l : List ℤ) (m i j : ℕ) → BoundedForm (edge_at l m).uv → i ≤ 64 → j ≤ 64 → Within valueMax (value_at l m i j)
+pub value-within : (l : List ℤ) (m i j : ℕ) → BoundedForm (edge_at l m).uv → i ≤ 64 → j ≤ 64 → Within value_max (value_at l m i j)
 value-within l m i j b hi hj =
     within-weaken (lit≤ tt) (within-add (within-add (within-mul b.a (record { within = hi })) (within-mul b.b (record { within = hj }))) b.c)
 
 -- ---- a column that an edge rules out, and one that none rules out
 module _ (l : List ℤ) (w : CellRange) (i j : ℕ) where
   abbrev cells : ℕ → ℕ → ℕ → Bool
-  cells = runCells l w (pos i) (pos j) (value_at l 0 i j) (value_at l 1 i j) (value_at l 2 i j)
+  cells = run_cells l w (pos i) (pos j) (value_at l 0 i j) (value_at l 1 i j) (value_at l 2 i j)
 
   -- of the column's own cells
-  cell-is : (c : Bool) → columnPasses l i j ≡ c → (k : ℕ) → cellPasses l w i j k ≡ (c && cells i j k)
-  unfolding cellPasses
+  cell-is : (c : Bool) → column_passes l i j ≡ c → (k : ℕ) → cell_passes l w i j k ≡ (c && cells i j k)
+  unfolding cell_passes
   cell-is c e k = ap (λ (x : Bool). x && cells i j k) e
 
-  pub cell-fails : columnPasses l i j ≡ false → (k : ℕ) → cellPasses l w i j k ≡ false
+  pub cell-fails : column_passes l i j ≡ false → (k : ℕ) → cell_passes l w i j k ≡ false
   cell-fails e k = cell-is false e k
 
   -- of the cells in one column
-  at : (a b k : ℕ) → oneColumn i j a b ≡ true → cellPasses l w a b k ≡ cellPasses l w i j k
-  at a b k o = let (p, q) = of-column i j a b o in λ d. cellPasses l w (p d) (q d) k
+  at : (a b k : ℕ) → one_column i j a b ≡ true → cell_passes l w a b k ≡ cell_passes l w i j k
+  at a b k o = let (p, q) = of-column i j a b o in λ d. cell_passes l w (p d) (q d) k
 
-  pub ruled_out : columnPasses l i j ≡ false → (a b k : ℕ) → oneColumn i j a b ≡ true → cellPasses l w a b k ≡ false
+  pub ruled_out : column_passes l i j ≡ false → (a b k : ℕ) → one_column i j a b ≡ true → cell_passes l w a b k ≡ false
   ruled_out e a b k o = at a b k o ∙ cell-fails e k
 
-  pub let-in : columnPasses l i j ≡ true → (a b k : ℕ) → oneColumn i j a b ≡ true → cells a b k ≡ cellPasses l w a b k
+  pub let-in : column_passes l i j ≡ true → (a b k : ℕ) → one_column i j a b ≡ true → cells a b k ≡ cell_passes l w a b k
   let-in e a b k o = sym (at a b k o ∙ cell-is true e k)
 
 -- ---- ranges that grow
@@ -109,13 +109,13 @@ still-ready p e lo hi = record { forms = p.forms; numbers = p.numbers; room = rw
 module _ (l : List ℤ) (g : Strides) (w : CellRange) where
   pub no-columns : (cols : ℕ → ℕ → Bool) (map : List ℕ) (hint : ℕ) → ((a b : ℕ) → cols a b ≡ true → ⊥) → w.first ≤ hint → hint ≤ w.end
       → DrawsColumns l g w cols map map hint
-  no-columns cols map hint none lo hi = record { draws = draws-nothing g cols (cellPasses l w) map (λ a b k e. absurd (none a b e)); low = lo; high = hi }
+  no-columns cols map hint none lo hi = record { draws = draws-nothing g cols (cell_passes l w) map (λ a b k e. absurd (none a b e)); low = lo; high = hi }
 
   pub more-columns : {p q r : ℕ → ℕ → Bool} {a b c : List ℕ} {x y : ℕ} → ((i j : ℕ) → (p i j || q i j) ≡ r i j)
       → DrawsColumns l g w p a b x → DrawsColumns l g w q b c y → DrawsColumns l g w r a c y
-  more-columns {p} {q} {r} e f h = record { draws = draws-then g f.draws h.draws (drawn-or g p q r (cellPasses l w) e); low = h.low; high = h.high }
+  more-columns {p} {q} {r} e f h = record { draws = draws-then g f.draws h.draws (drawn-or g p q r (cell_passes l w) e); low = h.low; high = h.high }
 
-pub row_more : {first k : ℕ} → first ≤ k → (j x y : ℕ) → (row_of (range first k) j x y || oneColumn k j x y) ≡ row_of (range first (k + 1)) j x y
+pub row_more : {first k : ℕ} → first ≤ k → (j x y : ℕ) → (row_of (range first k) j x y || one_column k j x y) ≡ row_of (range first (k + 1)) j x y
 row_more {first} {k} o j x y = sym (and-or_distrib_right (in_range (range first k) x) (eqb x k) (eqb y j)) ∙ ap (λ (b : Bool). b && eqb y j) (range-more o x)
 
 pub rectangle-more : {first k : ℕ} → first ≤ k → (u : CellRange) (x y : ℕ) → (rectangle u (range first k) x y || row_of u k x y) ≡ rectangle u (range first (k + 1)) x y

@@ -1,12 +1,12 @@
 // Columns of a grid's cells: the cells of a column that pass a triangle's forms are filled.
 ghost use Rattle.std.specs.Prelude.{◌≡◌, ◌<◌, ◌≤◌, length, pos};
 ghost use Rattle.integers.specs.Within.{Within};
-ghost use Rattle.geometry.specs.Bounds.{indexMax};
-ghost use Rattle.forms.specs.Form.{edge_at, planeAt, BoundedEdge, BoundedPlane};
+ghost use Rattle.geometry.specs.Bounds.{index_max};
+ghost use Rattle.forms.specs.Form.{edge_at, plane_at, BoundedEdge, BoundedPlane};
 ghost use Rattle.runs.specs.Run.{Narrows};
-ghost use Rattle.column_rule.specs.Column.{uvOf, planePasses, edgePasses, squarePasses};
-ghost use Rattle.columns.specs.Draw.{Draws, oneColumn, row_of, rectangle, inRun, RunReady};
-ghost use Rattle.columns.specs.Column.{runCells, RunIn, valueMax, ColumnsReady, RowsIn, DrawsColumns};
+ghost use Rattle.column_rule.specs.Column.{uv_of, plane_passes, edge_passes, square_passes};
+ghost use Rattle.columns.specs.Draw.{Draws, one_column, row_of, rectangle, in_run, RunReady};
+ghost use Rattle.columns.specs.Column.{run_cells, RunIn, value_max, ColumnsReady, RowsIn, DrawsColumns};
 
 use grid::CellRange;
 
@@ -25,7 +25,7 @@ pub struct Strides {
 // Fills the cells of a run of column (i, j).
 pub fn fill_run(map: &mut [u8], g: Strides, i: usize, j: usize, run: CellRange)
     requires { RunReady g (length map.old) i j run }
-    ensures { Draws g (oneColumn i j) (inRun run) map.old map.new }
+    ensures { Draws g (one_column i j) (in_run run) map.old map.new }
 {
     let su = g.su;
     let sv = g.sv;
@@ -42,8 +42,8 @@ pub fn fill_run(map: &mut [u8], g: Strides, i: usize, j: usize, run: CellRange)
 
 // The form of edge m in the plane uv, at the column (u, v).
 fn edge_value(forms: &[i64; 35], m: usize, u: i64, v: i64) -> i64
-    requires { (m < 3) × BoundedEdge (edge_at forms.now m) × Within indexMax u × Within indexMax v }
-    ensures { (result ≡ uvOf (edge_at forms.now m) u v) × Within valueMax result }
+    requires { (m < 3) × BoundedEdge (edge_at forms.now m) × Within index_max u × Within index_max v }
+    ensures { (result ≡ uv_of (edge_at forms.now m) u v) × Within value_max result }
 {
     let f = forms::uv(forms, m);
     f.a * u + f.b * v + f.c
@@ -52,7 +52,7 @@ fn edge_value(forms: &[i64; 35], m: usize, u: i64, v: i64) -> i64
 // The part of a run of column (u, v) that edge m passes, where x is its form there: all, where the column's square is inside of the edge.
 fn edge_run(run: CellRange, forms: &[i64; 35], m: usize, u: i64, v: i64, x: i64) -> CellRange
     requires { (m < 3) × BoundedEdge (edge_at forms.now m) × RunIn run u v }
-    ensures { Narrows run (edgePasses (edge_at forms.now m) u v x) result }
+    ensures { Narrows run (edge_passes (edge_at forms.now m) u v x) result }
 {
     if forms::inside(forms, m) <= x {
         return run;
@@ -65,8 +65,8 @@ fn edge_run(run: CellRange, forms: &[i64; 35], m: usize, u: i64, v: i64, x: i64)
 
 // The part of column (u, v) that the plane passes.
 fn plane_run(forms: &[i64; 35], w: CellRange, hint: usize, u: i64, v: i64) -> CellRange
-    requires { BoundedPlane (planeAt forms.now) × RunIn w u v × (w.first ≤ hint) × (hint ≤ w.end) }
-    ensures { Narrows w (planePasses (planeAt forms.now) u v) result }
+    requires { BoundedPlane (plane_at forms.now) × RunIn w u v × (w.first ≤ hint) × (hint ≤ w.end) }
+    ensures { Narrows w (plane_passes (plane_at forms.now) u v) result }
 {
     let p = forms::plane(forms);
     runs::by_slab(w, hint, p.w, p.at + p.u * u + p.v * v, p.reach)
@@ -87,7 +87,7 @@ fn column(
     hint: usize,
 ) -> usize
     requires { ColumnsReady forms.now g (length map.old) w hint × (i < g.nu) × (j < g.nv) }
-    ensures { Draws g (oneColumn i j) (runCells forms.now w (pos i) (pos j) x0 x1 x2) map.old map.new × (w.first ≤ result) × (result ≤ w.end) }
+    ensures { Draws g (one_column i j) (run_cells forms.now w (pos i) (pos j) x0 x1 x2) map.old map.new × (w.first ≤ result) × (result ≤ w.end) }
 {
     let u = integers::from_index(i);
     let v = integers::from_index(j);
@@ -101,7 +101,7 @@ fn column(
 
 // Does no edge rule out the column's square?
 fn square_passes(x0: i64, x1: i64, x2: i64) -> bool
-    ensures { result ≡ squarePasses x0 x1 x2 }
+    ensures { result ≡ square_passes x0 x1 x2 }
 {
     if x0 < 0 {
         return false;

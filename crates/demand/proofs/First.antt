@@ -10,57 +10,57 @@ use native.Mathlib.Numerals.{add-one}
 use native.Mathlib.Omega.{arith}
 use Rattle.touch.specs.declared.Found.{Found}
 use Rattle.touch.specs.declared.Found.TheVariants.{Cell, Nothing}
-use Rattle.demand.specs.Route.{Finding, free, blocked, firstBlocked}
+use Rattle.demand.specs.Route.{Finding, free, blocked, first_blocked}
 
 -- the finding by leg m alone; what the legs before say, and else the next
-abbrev byLeg : ℕ → Found → Finding
-byLeg m (Cell n) = blocked m n
-byLeg m Nothing = free
+abbrev by_leg : ℕ → Found → Finding
+by_leg m (Cell n) = blocked m n
+by_leg m Nothing = free
 
-abbrev orLater : Finding → Finding → Finding
-orLater free later = later
-orLater (blocked m n) later = blocked m n
+abbrev or_later : Finding → Finding → Finding
+or_later free later = later
+or_later (blocked m n) later = blocked m n
 
 module _ (find : ℕ → Found) where
-  more : (m : ℕ) → firstBlocked find (suc m) ≡ orLater (firstBlocked find m) (byLeg m (find m))
-  unfolding firstBlocked
-  more m = go (firstBlocked find m) (find m)
+  more : (m : ℕ) → first_blocked find (suc m) ≡ or_later (first_blocked find m) (by_leg m (find m))
+  unfolding first_blocked
+  more m = go (first_blocked find m) (find m)
     where
-      go : (r : Finding) (t : Found) → elim r [ blocked i n ↦ blocked i n | free ↦ elim t [ Cell n ↦ blocked m n | Nothing ↦ free ] ] ≡ orLater r (byLeg m t)
+      go : (r : Finding) (t : Found) → elim r [ blocked i n ↦ blocked i n | free ↦ elim t [ Cell n ↦ blocked m n | Nothing ↦ free ] ] ≡ or_later r (by_leg m t)
       go free (Cell n) = refl
       go free Nothing = refl
       go (blocked i n) t = refl
 
-  pub legs-none : firstBlocked find 0 ≡ free
-  unfolding firstBlocked
+  pub legs-none : first_blocked find 0 ≡ free
+  unfolding first_blocked
   legs-none = refl
 
-  pub legs-more : (m : ℕ) → firstBlocked find m ≡ free → find m ≡ Nothing → firstBlocked find (m + 1) ≡ free
-  unfolding firstBlocked
+  pub legs-more : (m : ℕ) → first_blocked find m ≡ free → find m ≡ Nothing → first_blocked find (m + 1) ≡ free
+  unfolding first_blocked
   legs-more m e f = rw (add-one) (more m ∙ rw (e, f))
 
-  pub legs-blocked : (m n c : ℕ) → m < c → firstBlocked find m ≡ free → find m ≡ Cell n → firstBlocked find c ≡ blocked m n
-  unfolding firstBlocked
+  pub legs-blocked : (m n c : ℕ) → m < c → first_blocked find m ≡ free → find m ≡ Cell n → first_blocked find c ≡ blocked m n
+  unfolding first_blocked
   legs-blocked m n zero l e f = absurd (omega arith)
   legs-blocked m n (suc c) l e f = more c ∙ go (ℕ_discrete m c) (λ k. legs-blocked m n c k e f)
     where
-      go : Dec (m ≡ c) → (m < c → firstBlocked find c ≡ blocked m n) → orLater (firstBlocked find c) (byLeg c (find c)) ≡ blocked m n
+      go : Dec (m ≡ c) → (m < c → first_blocked find c ≡ blocked m n) → or_later (first_blocked find c) (by_leg c (find c)) ≡ blocked m n
       go (yes q) again = rw (← q, e, f)
       go (no q) again = rw (again (omega arith))
 
-  pub legs-free : (c : ℕ) → ((m : ℕ) → m < c → find m ≡ Nothing) → firstBlocked find c ≡ free
-  unfolding firstBlocked
+  pub legs-free : (c : ℕ) → ((m : ℕ) → m < c → find m ≡ Nothing) → first_blocked find c ≡ free
+  unfolding first_blocked
   legs-free zero h = refl
   legs-free (suc c) h = more c ∙ rw (legs-free c (λ m l. h m (omega arith)), h c (omega arith))
 
-  pub free-legs : (c : ℕ) → firstBlocked find c ≡ free → (m : ℕ) → m < c → find m ≡ Nothing
-  unfolding firstBlocked
+  pub free-legs : (c : ℕ) → first_blocked find c ≡ free → (m : ℕ) → m < c → find m ≡ Nothing
+  unfolding first_blocked
   free-legs zero e m l = absurd (omega arith)
   free-legs (suc c) e m l =
-      let both = neither (firstBlocked find c) (find c) (sym (more c) ∙ e) in
+      let both = neither (first_blocked find c) (find c) (sym (more c) ∙ e) in
       go (ℕ_discrete m c) (free-legs c both.0 m) both.1
     where
-      neither : (r : Finding) (t : Found) → orLater r (byLeg c t) ≡ free → (r ≡ free) × (t ≡ Nothing)
+      neither : (r : Finding) (t : Found) → or_later r (by_leg c t) ≡ free → (r ≡ free) × (t ≡ Nothing)
       neither free (Cell n) q = let z : ◌≡◌ {A = ℕ} 0 1 = cc in absurd (omega arith)
       neither free Nothing q = (refl, refl)
       neither (blocked i n) t q = let z : ◌≡◌ {A = ℕ} 0 1 = cc in absurd (omega arith)
@@ -73,13 +73,13 @@ module _ (find : ℕ → Found) where
   abbrev Blocks : (c m n : ℕ) → Type 0
   Blocks c m n = (m < c) × (find m ≡ Cell n) × ((i : ℕ) → i < m → find i ≡ Nothing)
 
-  pub blocked-leg : (c m n : ℕ) → firstBlocked find c ≡ blocked m n → Blocks c m n
-  unfolding firstBlocked
+  pub blocked-leg : (c m n : ℕ) → first_blocked find c ≡ blocked m n → Blocks c m n
+  unfolding first_blocked
   blocked-leg zero m n e = let z : ◌≡◌ {A = ℕ} 0 1 = cc in absurd (omega arith)
-  blocked-leg (suc c) m n e = go (firstBlocked find c) (find c) refl refl (sym (more c) ∙ e) (blocked-leg c m n)
+  blocked-leg (suc c) m n e = go (first_blocked find c) (find c) refl refl (sym (more c) ∙ e) (blocked-leg c m n)
     where
-      go : (r : Finding) (t : Found) → firstBlocked find c ≡ r → find c ≡ t → orLater r (byLeg c t) ≡ blocked m n
-          → (firstBlocked find c ≡ blocked m n → Blocks c m n) → Blocks (suc c) m n
+      go : (r : Finding) (t : Found) → first_blocked find c ≡ r → find c ≡ t → or_later r (by_leg c t) ≡ blocked m n
+          → (first_blocked find c ≡ blocked m n → Blocks c m n) → Blocks (suc c) m n
       go free (Cell k) q u f again =
           let leg : c ≡ m = cc in
           let cell : k ≡ n = cc in

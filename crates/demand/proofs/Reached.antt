@@ -17,9 +17,9 @@ use Rattle.geometry.specs.declared.Point.{Point}
 use Rattle.geometry.specs.declared.Triangle.{Triangle}
 use Rattle.geometry.specs.Geometry.{leg, cube}
 use Rattle.grid.specs.declared.Grid.{Grid}
-use Rattle.grid.specs.Grid.{cellCount, latticeOf, cornerOf}
-use Rattle.overlap.specs.Rule.{overlapsBox}
-use Rattle.overlap.specs.Cells.{overlapsCell}
+use Rattle.grid.specs.Grid.{cell_count, lattice_of, corner_of}
+use Rattle.overlap.specs.Rule.{overlaps_box}
+use Rattle.overlap.specs.Cells.{overlaps_cell}
 use Rattle.reach.specs.Reaches.{Reaches, LegReaches}
 use Rattle.reach.proofs.Theorem.{cell-rule}
 use Rattle.reach.proofs.Legs.{leg-rule}
@@ -29,10 +29,10 @@ use Rattle.entry.specs.Inner.{AtMost, Positive, share, LeastFraction}
 use Rattle.entry.proofs.Fractions.{at-most-trans, earlier-trans}
 use Rattle.entry.proofs.Least.{entry-positive, entry-least}
 use Rattle.touch.specs.declared.Found.TheVariants.{Cell, Nothing}
-use Rattle.first_hit.specs.FirstHit.{filledAndTouched, entryOfCell, firstHit}
+use Rattle.first_hit.specs.FirstHit.{filled_and_touched, entry_of_cell, first_hit}
 use Rattle.first_hit.specs.Inner.{IsFirst}
 use Rattle.first_hit.proofs.Nearest.{found_first, none_found, found_none}
-use Rattle.demand.specs.Route.{blocked, pointAt, legCount, tested}
+use Rattle.demand.specs.Route.{blocked, point_at, leg_count, tested}
 use Rattle.demand.specs.Demand.{ReachedFirst}
 use Rattle.demand.proofs.First.{blocked-leg}
 
@@ -50,57 +50,57 @@ le-pos h = omega zarith
 
 -- ---- the rule is exactly "reaches", for a triangle and for a leg
 module _ (p : Point) (s : ℤ) (size : pos 0 ≤ℤ s) where
-  pub reaches : (t : Triangle) → overlapsBox t p (cube s) ≡ true → Reaches t p s
+  pub reaches : (t : Triangle) → overlaps_box t p (cube s) ≡ true → Reaches t p s
   reaches t e = (cell-rule t p s size).0 (true-T _ e)
 
-  pub reached : (t : Triangle) → Reaches t p s → overlapsBox t p (cube s) ≡ true
+  pub reached : (t : Triangle) → Reaches t p s → overlaps_box t p (cube s) ≡ true
   reached t r = T_true _ ((cell-rule t p s size).1 r)
 
-  pub leg-reaches : (a b : Point) → overlapsBox (leg a b) p (cube s) ≡ true → LegReaches a b p s
+  pub leg-reaches : (a b : Point) → overlaps_box (leg a b) p (cube s) ≡ true → LegReaches a b p s
   leg-reaches a b e = (leg-rule a b p (cube s)).1 (reaches (leg a b) e)
 
-  pub leg-reached : (a b : Point) → LegReaches a b p s → overlapsBox (leg a b) p (cube s) ≡ true
+  pub leg-reached : (a b : Point) → LegReaches a b p s → overlaps_box (leg a b) p (cube s) ≡ true
   leg-reached a b r = reached (leg a b) ((leg-rule a b p (cube s)).0 r)
 
 -- ---- the cell that is found on a leg
 module _ (filled : ℕ → Bool) (g : Grid) (a b : Point) where
-  positive : (n : ℕ) → Positive (entryOfCell g a b n)
-  positive n = entry-positive a b (cornerOf g n) (cube g.edge)
+  positive : (n : ℕ) → Positive (entry_of_cell g a b n)
+  positive n = entry-positive a b (corner_of g n) (cube g.edge)
 
-  hit-first : (n : ℕ) → firstHit filled g a b ≡ Cell n → IsFirst (filledAndTouched filled g a b) (entryOfCell g a b) (cellCount g) n
-  unfolding firstHit
-  hit-first n e = found_first (filledAndTouched filled g a b) (entryOfCell g a b) positive (cellCount g) n e
+  hit-first : (n : ℕ) → first_hit filled g a b ≡ Cell n → IsFirst (filled_and_touched filled g a b) (entry_of_cell g a b) (cell_count g) n
+  unfolding first_hit
+  hit-first n e = found_first (filled_and_touched filled g a b) (entry_of_cell g a b) positive (cell_count g) n e
 
-  pub hit-has : (n : ℕ) → firstHit filled g a b ≡ Cell n → (n < cellCount g) × (filledAndTouched filled g a b n ≡ true)
+  pub hit-has : (n : ℕ) → first_hit filled g a b ≡ Cell n → (n < cell_count g) × (filled_and_touched filled g a b n ≡ true)
   hit-has n e = let h = hit-first n e in (h.below, h.has)
 
-  pub none-hit : firstHit filled g a b ≡ Nothing → (n : ℕ) → n < cellCount g → filledAndTouched filled g a b n ≡ false
-  unfolding firstHit
-  none-hit e = none_found (filledAndTouched filled g a b) (entryOfCell g a b) positive (cellCount g) e
+  pub none-hit : first_hit filled g a b ≡ Nothing → (n : ℕ) → n < cell_count g → filled_and_touched filled g a b n ≡ false
+  unfolding first_hit
+  none-hit e = none_found (filled_and_touched filled g a b) (entry_of_cell g a b) positive (cell_count g) e
 
-  pub hit-none : ((n : ℕ) → n < cellCount g → filledAndTouched filled g a b n ≡ false) → firstHit filled g a b ≡ Nothing
-  unfolding firstHit
-  hit-none h = found_none (filledAndTouched filled g a b) (entryOfCell g a b) positive (cellCount g) h
+  pub hit-none : ((n : ℕ) → n < cell_count g → filled_and_touched filled g a b n ≡ false) → first_hit filled g a b ≡ Nothing
+  unfolding first_hit
+  hit-none h = found_none (filled_and_touched filled g a b) (entry_of_cell g a b) positive (cell_count g) h
 
   -- ---- it is reached first
   module _ (size : pos 0 ≤ℤ g.edge) where
     abbrev Reached : ℕ → Type 0
-    Reached n = LegReaches a b (cornerOf g n) g.edge
+    Reached n = LegReaches a b (corner_of g n) g.edge
 
     abbrev at : ℕ → Fraction
-    at = entryOfCell g a b
+    at = entry_of_cell g a b
 
-    entered : (n : ℕ) → Reached n → LeastFraction a b (cornerOf g n) (cube g.edge) (at n)
-    entered n r = entry-least a b (cornerOf g n) (cube g.edge) r
+    entered : (n : ℕ) → Reached n → LeastFraction a b (corner_of g n) (cube g.edge) (at n)
+    entered n r = entry-least a b (corner_of g n) (cube g.edge) r
 
-    touched : (n : ℕ) → filled n ≡ true → Reached n → filledAndTouched filled g a b n ≡ true
-    touched n e r = (and-eq-true_iff (filled n) (overlapsCell g (latticeOf g) (leg a b) n)).1 (e, leg-reached (cornerOf g n) g.edge size a b r)
+    touched : (n : ℕ) → filled n ≡ true → Reached n → filled_and_touched filled g a b n ≡ true
+    touched n e r = (and-eq-true_iff (filled n) (overlaps_cell g (lattice_of g) (leg a b) n)).1 (e, leg-reached (corner_of g n) g.edge size a b r)
 
-    hit-reached : (n : ℕ) → firstHit filled g a b ≡ Cell n → ReachedFirst filled g a b n
+    hit-reached : (n : ℕ) → first_hit filled g a b ≡ Cell n → ReachedFirst filled g a b n
     hit-reached n e =
         let h = hit-first n e in
-        let (full, over) = (and-eq-true_iff (filled n) (overlapsCell g (latticeOf g) (leg a b) n)).0 h.has in
-        let u = entered n (leg-reaches (cornerOf g n) g.edge size a b over) in
+        let (full, over) = (and-eq-true_iff (filled n) (overlaps_cell g (lattice_of g) (leg a b) n)).0 h.has in
+        let u = entered n (leg-reaches (corner_of g n) g.edge size a b over) in
         record {
           cell_in = h.below;
           full = full;
@@ -115,8 +115,8 @@ module _ (filled : ℕ → Bool) (g : Grid) (a b : Point) where
 
 -- ---- the cell that a finding names
 pub reached-first : (filled : ℕ → Bool) (g : Grid) (ps : List Point) → pos 0 ≤ℤ g.edge → (m n : ℕ) → tested filled g ps ≡ blocked m n
-    → ReachedFirst filled g (pointAt ps m) (pointAt ps (m + 1)) n
+    → ReachedFirst filled g (point_at ps m) (point_at ps (m + 1)) n
 unfolding tested
 reached-first filled g ps size m n e =
-    let (lm, found, before) = blocked-leg _ (legCount ps) m n e in
-    hit-reached filled g (pointAt ps m) (pointAt ps (m + 1)) size n found
+    let (lm, found, before) = blocked-leg _ (leg_count ps) m n e in
+    hit-reached filled g (point_at ps m) (point_at ps (m + 1)) size n found

@@ -20,68 +20,68 @@ use Rattle.refusal.specs.Limit.{Answer, gives}
 use Rattle.geometry.specs.declared.Point.{Point}
 use Rattle.geometry.specs.declared.Triangle.{Triangle}
 use Rattle.grid.specs.declared.Grid.{Grid}
-use Rattle.grid.specs.Grid.{cellCount, cornerOf}
-use Rattle.map.specs.Map.{isFilled}
+use Rattle.grid.specs.Grid.{cell_count, corner_of}
+use Rattle.map.specs.Map.{is_filled}
 use Rattle.reach.specs.Reaches.{Reaches, LegReaches, CommonPoint}
 use Rattle.reach.proofs.Common.{corner-common}
-use Rattle.fill.specs.Fill.{gridOf, obstacles, filling, filledBytes}
-use Rattle.demand.specs.Route.{points_of, pointAt, legCount, Finding, free, blocked, routeAnswer}
+use Rattle.fill.specs.Fill.{grid_of, obstacles, filling, filled_bytes}
+use Rattle.demand.specs.Route.{points_of, point_at, leg_count, Finding, free, blocked, route_answer}
 use Rattle.demand.specs.Demand.{SomeOf, Meets, Demand3, LeftByFill, DemandOf, ReachedFirst, FirstOf}
 use Rattle.demand.proofs.Demand.{demand-3}
 
-pub fill-leaves : (s old : List ℕ) (count : ℕ) → filling s old ≡ gives count → LeftByFill s (filledBytes s old)
+pub fill-leaves : (s old : List ℕ) (count : ℕ) → filling s old ≡ gives count → LeftByFill s (filled_bytes s old)
 fill-leaves s old count e = record { old = old; count = count; accepted = e; bytes = refl }
 
-pub after-fill : (s old : List ℕ) (count : ℕ) (ns : List ℤ) (f : Finding) → filling s old ≡ gives count → routeAnswer s (filledBytes s old) ns ≡ gives f
-    → Demand3 (gridOf s) (obstacles s) (points_of ns) f
-after-fill s old count ns f e r = demand-3 s (filledBytes s old) ns f r (fill-leaves s old count e)
+pub after-fill : (s old : List ℕ) (count : ℕ) (ns : List ℤ) (f : Finding) → filling s old ≡ gives count → route_answer s (filled_bytes s old) ns ≡ gives f
+    → Demand3 (grid_of s) (obstacles s) (points_of ns) f
+after-fill s old count ns f e r = demand-3 s (filled_bytes s old) ns f r (fill-leaves s old count e)
 
 some_more : {A : Type 0} {P Q : A → Type 0} → ((x : A) → P x → Q x) → (xs : List A) → SomeOf P xs → SomeOf Q xs
 some_more f (x ∷ xs) (inl p) = inl (f x p)
 some_more f (x ∷ xs) (inr r) = inr (some_more f xs r)
 
-pub meets-corner : (g : Grid) (ts : List Triangle) (ps : List Point) (m : ℕ) → m < legCount ps
-    → (p : Point) → (p ≡ pointAt ps m) ⊎ (p ≡ pointAt ps (m + 1)) → SomeOf (λ t. (p ≡ t.v0) ⊎ ((p ≡ t.v1) ⊎ (p ≡ t.v2))) ts → Meets g ts ps
+pub meets-corner : (g : Grid) (ts : List Triangle) (ps : List Point) (m : ℕ) → m < leg_count ps
+    → (p : Point) → (p ≡ point_at ps m) ⊎ (p ≡ point_at ps (m + 1)) → SomeOf (λ t. (p ≡ t.v0) ⊎ ((p ≡ t.v1) ⊎ (p ≡ t.v2))) ts → Meets g ts ps
 meets-corner g ts ps m l p end corner = record {
   m = m;
   on-route = omega arith;
-  common = some_more (λ t. corner-common (pointAt ps m) (pointAt ps (m + 1)) p t end) ts corner;
+  common = some_more (λ t. corner-common (point_at ps m) (point_at ps (m + 1)) p t end) ts corner;
 }
 
-pub meets-by : (g : Grid) (ts : List Triangle) (ps : List Point) (m : ℕ) → m < legCount ps
-    → SomeOf (λ t. CommonPoint (pointAt ps m) (pointAt ps (m + 1)) t) ts → Meets g ts ps
+pub meets-by : (g : Grid) (ts : List Triangle) (ps : List Point) (m : ℕ) → m < leg_count ps
+    → SomeOf (λ t. CommonPoint (point_at ps m) (point_at ps (m + 1)) t) ts → Meets g ts ps
 meets-by g ts ps m l c = record { m = m; on-route = l; common = c }
 
 -- ---- what a caller has of a contract, spelt out: r is what a route test said, on a map that an accepted fill left
-module _ (s old : List ℕ) (count : ℕ) (ns : List ℤ) (r : Answer Finding) (e : filling s old ≡ gives count) (d : DemandOf s (filledBytes s old) ns r) where
-  claim : (f : Finding) → r ≡ gives f → Demand3 (gridOf s) (obstacles s) (points_of ns) f
+module _ (s old : List ℕ) (count : ℕ) (ns : List ℤ) (r : Answer Finding) (e : filling s old ≡ gives count) (d : DemandOf s (filled_bytes s old) ns r) where
+  claim : (f : Finding) → r ≡ gives f → Demand3 (grid_of s) (obstacles s) (points_of ns) f
   claim f is = d f is (fill-leaves s old count e)
 
   -- Leg m, and some triangle, reach the cell at p.
   abbrev LegAt : (m : ℕ) (p : Point) → Type 0
-  LegAt m p = LegReaches (pointAt (points_of ns) m) (pointAt (points_of ns) (m + 1)) p (gridOf s).edge
+  LegAt m p = LegReaches (point_at (points_of ns) m) (point_at (points_of ns) (m + 1)) p (grid_of s).edge
 
   abbrev SteelAt : (p : Point) → Type 0
-  SteelAt p = SomeOf (λ t. Reaches t p (gridOf s).edge) (obstacles s)
+  SteelAt p = SomeOf (λ t. Reaches t p (grid_of s).edge) (obstacles s)
 
-  pub free-none : r ≡ gives free → (m n : ℕ) → m < legCount (points_of ns) → n < cellCount (gridOf s) → LegAt m (cornerOf (gridOf s) n) → SteelAt (cornerOf (gridOf s) n) → ⊥
+  pub free-none : r ≡ gives free → (m n : ℕ) → m < leg_count (points_of ns) → n < cell_count (grid_of s) → LegAt m (corner_of (grid_of s) n) → SteelAt (corner_of (grid_of s) n) → ⊥
   free-none is m n l c leg steel = (claim free is).exactly.0 refl m n (record { leg-in = l; cell_in = c; leg = leg; triangle = steel })
 
   -- and back: where no leg and no triangle reach one cell, it is "free"
   pub none_free : (f : Finding) → r ≡ gives f
-      → ((m n : ℕ) → m < legCount (points_of ns) → n < cellCount (gridOf s) → LegAt m (cornerOf (gridOf s) n) → SteelAt (cornerOf (gridOf s) n) → ⊥) → f ≡ free
+      → ((m n : ℕ) → m < leg_count (points_of ns) → n < cell_count (grid_of s) → LegAt m (corner_of (grid_of s) n) → SteelAt (corner_of (grid_of s) n) → ⊥) → f ≡ free
   none_free f is none = (claim f is).exactly.1 (λ m n b. none m n b.leg-in b.cell_in b.leg b.triangle)
 
-  pub free-apart : r ≡ gives free → (m : ℕ) → m < legCount (points_of ns)
-      → SomeOf (λ t. CommonPoint (pointAt (points_of ns) m) (pointAt (points_of ns) (m + 1)) t) (obstacles s) → ⊥
-  free-apart is m l c = (claim free is).apart refl (meets-by (gridOf s) (obstacles s) (points_of ns) m l c)
+  pub free-apart : r ≡ gives free → (m : ℕ) → m < leg_count (points_of ns)
+      → SomeOf (λ t. CommonPoint (point_at (points_of ns) m) (point_at (points_of ns) (m + 1)) t) (obstacles s) → ⊥
+  free-apart is m l c = (claim free is).apart refl (meets-by (grid_of s) (obstacles s) (points_of ns) m l c)
 
   pub blocked-shares : (m n : ℕ) → r ≡ gives (blocked m n)
-      → (m < legCount (points_of ns)) × (n < cellCount (gridOf s)) × LegAt m (cornerOf (gridOf s) n) × SteelAt (cornerOf (gridOf s) n)
+      → (m < leg_count (points_of ns)) × (n < cell_count (grid_of s)) × LegAt m (corner_of (grid_of s) n) × SteelAt (corner_of (grid_of s) n)
   blocked-shares m n is = let b = (claim (blocked m n) is).named m n refl in (b.leg-in, b.cell_in, b.leg, b.triangle)
 
 pub blocked-first : (s m : List ℕ) (ns : List ℤ) (r : Answer Finding) → FirstOf s m ns r → (i n : ℕ) → r ≡ gives (blocked i n)
-    → ReachedFirst (isFilled m) (gridOf s) (pointAt (points_of ns) i) (pointAt (points_of ns) (i + 1)) n
+    → ReachedFirst (is_filled m) (grid_of s) (point_at (points_of ns) i) (point_at (points_of ns) (i + 1)) n
 blocked-first s m ns r f = f
 
 reached-twice : {filled : ℕ → Bool} {g : Grid} {a b : Point} {n m : ℕ} → ReachedFirst filled g a b n → ReachedFirst filled g a b m → n < m → ⊥

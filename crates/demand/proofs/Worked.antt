@@ -5,14 +5,14 @@ use mathlib.Core.Path.{◌≡◌, refl}
 use Prim.Native.Nat.{ℕ, ◌*◌}
 use lib.IntN.{ℤ, pos}
 use lib.ListN.{replicate}
-use Rattle.bits.specs.Field.{bit_at, field_at, signedAt}
+use Rattle.bits.specs.Field.{bit_at, field_at, signed_at}
 use Rattle.geometry.specs.Geometry.{point}
 use Rattle.refusal.specs.Limit.{refused}
-use Rattle.refusal.specs.Questions.{answered, ofEach}
+use Rattle.refusal.specs.Questions.{answered, of_each}
 use Rattle.grid.specs.Grid.{inside}
 use Rattle.map.specs.Map.{tabulate}
-use Rattle.layout.specs.Values.{headerIn, reservedIn, kindIn}
-use Rattle.demand.specs.Route.{points_of, pointAt, legCount, countFits, routeAnswer}
+use Rattle.layout.specs.Values.{header_in, reserved_in, kind_in}
+use Rattle.demand.specs.Route.{points_of, point_at, leg_count, count_fits, route_answer}
 
 -- ---- points and legs
 pub three-points : points_of (pos 1 ∷ pos 2 ∷ pos 3 ∷ pos 4 ∷ pos 5 ∷ pos 6 ∷ pos 7 ∷ pos 8 ∷ pos 9 ∷ [])
@@ -20,11 +20,11 @@ pub three-points : points_of (pos 1 ∷ pos 2 ∷ pos 3 ∷ pos 4 ∷ pos 5 ∷ 
 unfolding points_of tabulate
 three-points = refl
 
-pub two-legs : legCount (replicate 3 (point (pos 0) (pos 0) (pos 0))) ≡ 2
+pub two-legs : leg_count (replicate 3 (point (pos 0) (pos 0) (pos 0))) ≡ 2
 two-legs = refl
 
 -- 1, 2, 64 and 65 points; a number left over
-pub counts : (countFits (replicate 3 (pos 0)) ∷ countFits (replicate 6 (pos 0)) ∷ countFits (replicate 192 (pos 0)) ∷ countFits (replicate 195 (pos 0)) ∷ countFits (replicate 7 (pos 0)) ∷ [])
+pub counts : (count_fits (replicate 3 (pos 0)) ∷ count_fits (replicate 6 (pos 0)) ∷ count_fits (replicate 192 (pos 0)) ∷ count_fits (replicate 195 (pos 0)) ∷ count_fits (replicate 7 (pos 0)) ∷ [])
     ≡ (false ∷ true ∷ true ∷ false ∷ false ∷ [])
 counts = refl
 
@@ -36,14 +36,14 @@ g = 0x10 ∷ 0x41 ∷ 0x04 ∷ 0x28 ∷ 0x00 ∷ 0x00 ∷ 0x00 ∷ 0x00 ∷ 0x00
 abbrev outside : List ℤ
 outside = pos 20 ∷ pos 20 ∷ pos 20 ∷ pos 21 ∷ pos 20 ∷ pos 20 ∷ pos 20 ∷ pos 20 ∷ pos 21 ∷ []
 
-pub short-map : routeAnswer g [] (outside ++ (pos 0 ∷ [])) ≡ refused 8 0
-unfolding bit_at field_at signedAt headerIn reservedIn kindIn answered ofEach routeAnswer
+pub short-map : route_answer g [] (outside ++ (pos 0 ∷ [])) ≡ refused 8 0
+unfolding bit_at field_at signed_at header_in reserved_in kind_in answered of_each route_answer
 short-map = refl
 
-pub left_over : routeAnswer g (0x70 ∷ []) (outside ++ (pos 0 ∷ [])) ≡ refused 9 0
-unfolding bit_at field_at signedAt headerIn reservedIn kindIn answered ofEach routeAnswer
+pub left_over : route_answer g (0x70 ∷ []) (outside ++ (pos 0 ∷ [])) ≡ refused 9 0
+unfolding bit_at field_at signed_at header_in reserved_in kind_in answered of_each route_answer
 left_over = refl
 
-pub lowest-point : routeAnswer g (0x70 ∷ []) outside ≡ refused 10 1
-unfolding bit_at field_at signedAt headerIn reservedIn kindIn answered ofEach tabulate inside points_of routeAnswer
+pub lowest-point : route_answer g (0x70 ∷ []) outside ≡ refused 10 1
+unfolding bit_at field_at signed_at header_in reserved_in kind_in answered of_each tabulate inside points_of route_answer
 lowest-point = refl

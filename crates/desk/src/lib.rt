@@ -1,13 +1,13 @@
 // The library for a program of the drawing office or of a service laptop, in C or Rust: each call's answer packed into one
 // number. It is an archive of its own, so that the controller's has what runs on the controller alone.
 ghost use Rattle.std.specs.Prelude.{◌≡◌, ◌<◌, ◌^◌, length};
-ghost use Rattle.pack.specs.Pack.{packedCount, unpackedCount};
+ghost use Rattle.pack.specs.Pack.{packed_count, unpacked_count};
 ghost use Rattle.refusal.specs.Limit.{gives};
 ghost use Rattle.service.specs.Bar.{bar, behind};
-ghost use Rattle.frame_write.specs.Write.{saidWritten};
-ghost use Rattle.desk.specs.Calls.{listWriting, listBytes, listScanning, listScanBytes};
-ghost use Rattle.desk.specs.Bar.{barRoomed, packedBar, unpackedBar, BarLeft};
-ghost use Rattle.desk.specs.Inner.{barList};
+ghost use Rattle.frame_write.specs.Write.{said_written};
+ghost use Rattle.desk.specs.Calls.{list_writing, list_bytes, list_scanning, list_scan_bytes};
+ghost use Rattle.desk.specs.Bar.{bar_roomed, packed_bar, unpacked_bar, BarLeft};
+ghost use Rattle.desk.specs.Inner.{bar_list};
 
 use frame_write::Written;
 use refusal::Limit;
@@ -18,7 +18,7 @@ use weights::Weights;
 // 0 in the top byte; or 1 in the top byte and the limit's number in the next.
 #[unsafe(no_mangle)]
 pub extern "C" fn desk_write(grid: &[i32], triangles: &[i32], out: &mut [u8]) -> u64
-    ensures { (result ≡ packedCount (listWriting grid.now triangles.now (length out.old))) × (unpackedCount result ≡ listWriting grid.now triangles.now (length out.old)) × (out.new ≡ listBytes grid.now triangles.now out.old) }
+    ensures { (result ≡ packed_count (list_writing grid.now triangles.now (length out.old))) × (unpacked_count result ≡ list_writing grid.now triangles.now (length out.old)) × (out.new ≡ list_bytes grid.now triangles.now out.old) }
 {
     if grid.len() != 7 {
         return pack::pack_limit(Limit::Unwritable);
@@ -30,7 +30,7 @@ pub extern "C" fn desk_write(grid: &[i32], triangles: &[i32], out: &mut [u8]) ->
 // for a vertex or for a face has its number in the low 32 bits. No file below 2^32 bytes has a number that they cannot hold.
 #[unsafe(no_mangle)]
 pub extern "C" fn desk_scan(ply: &[u8], grid: &[i32], out: &mut [u8]) -> u64
-    ensures { (result ≡ packedCount (listScanning ply.now grid.now (length out.old))) × (length ply.now < 2 ^ 32 → unpackedCount result ≡ listScanning ply.now grid.now (length out.old)) × (out.new ≡ listScanBytes ply.now grid.now out.old) }
+    ensures { (result ≡ packed_count (list_scanning ply.now grid.now (length out.old))) × (length ply.now < 2 ^ 32 → unpacked_count result ≡ list_scanning ply.now grid.now (length out.old)) × (out.new ≡ list_scan_bytes ply.now grid.now out.old) }
 {
     if grid.len() != 7 {
         return pack::pack_limit(Limit::Unwritable);
@@ -40,7 +40,7 @@ pub extern "C" fn desk_scan(ply: &[u8], grid: &[i32], out: &mut [u8]) -> u64
 
 // What a writing answers, packed.
 fn pack_written(written: Written) -> u64
-    ensures { result ≡ packedCount (saidWritten written) }
+    ensures { result ≡ packed_count (said_written written) }
 {
     match written {
         Written::Length(n) => pack::pack(0, 0, 0, n),
@@ -53,7 +53,7 @@ fn pack_written(written: Written) -> u64
 // where `weights` has not so many; or a refusal, as for the writer.
 #[unsafe(no_mangle)]
 pub extern "C" fn desk_bar(file: &[u8], cell: usize, weights: &mut [i64]) -> u64
-    ensures { (result ≡ packedBar (barRoomed (behind file.now cell) (length weights.old))) × (unpackedBar result ≡ barRoomed (behind file.now cell) (length weights.old)) × BarLeft file.now cell (unpackedBar result) weights.old weights.new }
+    ensures { (result ≡ packed_bar (bar_roomed (behind file.now cell) (length weights.old))) × (unpacked_bar result ≡ bar_roomed (behind file.now cell) (length weights.old)) × BarLeft file.now cell (unpacked_bar result) weights.old weights.new }
 {
     match service::behind(file, cell) {
         BarAnswer::Clear => pack::pack(5, 0, 0, 0),
@@ -64,7 +64,7 @@ pub extern "C" fn desk_bar(file: &[u8], cell: usize, weights: &mut [i64]) -> u64
 
 // A bar's weights into the list, where it has room for them.
 fn write_bar(i: usize, w: Weights, weights: &mut [i64]) -> u64
-    ensures { (result ≡ packedBar (barRoomed (gives (bar i)) (length weights.old))) × (weights.new ≡ barList w weights.old) }
+    ensures { (result ≡ packed_bar (bar_roomed (gives (bar i)) (length weights.old))) × (weights.new ≡ bar_list w weights.old) }
 {
     if weights.len() < 3 {
         return pack::pack(4, 0, 0, 3);

@@ -12,10 +12,10 @@ use Rattle.integers.proofs.Laws.{NN, <→≤, nn-pos, pos-lt, lt-pos, ≤→nn}
 use Rattle.integers.proofs.Expr.{var, num, ◌⊕◌, ◌⊗◌}
 use Rattle.integers.proofs.Certificates.{nn, le, ◌⊞◌, ◌⊠◌, by_le, by-le/}
 use Rattle.geometry.specs.declared.Point.{Point}
-use Rattle.geometry.specs.Geometry.{Axis, xOf, yOf, z_of}
-use Rattle.reach.specs.Reaches.{Between, LegReachesBox, weightedSumLeg}
+use Rattle.geometry.specs.Geometry.{Axis, x_of, y_of, z_of}
+use Rattle.reach.specs.Reaches.{Between, LegReachesBox, weighted_sum_leg}
 use Rattle.entry.specs.declared.Fraction.{Fraction}
-use Rattle.entry.specs.Entry.{over, later, entryOn, entry}
+use Rattle.entry.specs.Entry.{over, later, entry_on, entry}
 use Rattle.entry.specs.Inner.{AtMost, Positive, share, LeastFraction}
 use Rattle.entry.proofs.Fractions.{later-ind, later-left, later-right, at-most-trans}
 use Rattle.entry.proofs.Sides.{Inside, axis-positive, axis-least, axis-at}
@@ -46,7 +46,7 @@ weights f w0 w1 pf pw low high =
 
 module _ (a b p d : Point) where
   abbrev on : Axis → Fraction
-  on c = entryOn (c a) (c b) (c p) (c d)
+  on c = entry_on (c a) (c b) (c p) (c d)
 
   abbrev zero : Fraction
   zero = over (pos 0) (pos 1)
@@ -58,46 +58,46 @@ module _ (a b p d : Point) where
   on-positive c = axis-positive (c a) (c b) (c p) (c d)
 
   -- a property of 0 and of the axes' fractions is one of the greatest
-  by-axis : (P : Fraction → Type 0) → P zero → P (on xOf) → P (on yOf) → P (on z_of) → P (entry a b p d)
+  by-axis : (P : Fraction → Type 0) → P zero → P (on x_of) → P (on y_of) → P (on z_of) → P (entry a b p d)
   unfolding entry
   by-axis P s x y z = later-ind P _ _ (later-ind P _ _ (later-ind P _ _ s z) y) x
 
   pub entry-positive : Positive (entry a b p d)
-  entry-positive = by-axis Positive zero-positive (on-positive xOf) (on-positive yOf) (on-positive z_of)
+  entry-positive = by-axis Positive zero-positive (on-positive x_of) (on-positive y_of) (on-positive z_of)
 
   -- what the greatest of four is at least
   pub record Four (f : Fraction) : Type 0 where
     pub start : AtMost zero f
-    pub x : AtMost (on xOf) f
-    pub y : AtMost (on yOf) f
+    pub x : AtMost (on x_of) f
+    pub y : AtMost (on y_of) f
     pub z : AtMost (on z_of) f
 
   four : Four (entry a b p d)
   unfolding entry
   four =
       let pz = on-positive z_of in
-      let py = on-positive yOf in
+      let py = on-positive y_of in
       let f1 = later zero (on z_of) in
       let p1 = later-ind Positive zero (on z_of) zero-positive pz in
-      let f2 = later f1 (on yOf) in
-      let p2 = later-ind Positive f1 (on yOf) p1 py in
-      let f3 = later f2 (on xOf) in
+      let f2 = later f1 (on y_of) in
+      let p2 = later-ind Positive f1 (on y_of) p1 py in
+      let f3 = later f2 (on x_of) in
       let from-2 : (f : Fraction) → Positive f → AtMost f f2 → AtMost f f3 =
-      λ f pf h. at-most-trans f f2 f3 pf p2 entry-positive h (later-left f2 (on xOf)) in
+      λ f pf h. at-most-trans f f2 f3 pf p2 entry-positive h (later-left f2 (on x_of)) in
       let from-1 : (f : Fraction) → Positive f → AtMost f f1 → AtMost f f3 =
-      λ f pf h. from-2 f pf (at-most-trans f f1 f2 pf p1 p2 h (later-left f1 (on yOf))) in
+      λ f pf h. from-2 f pf (at-most-trans f f1 f2 pf p1 p2 h (later-left f1 (on y_of))) in
       record {
         start = from-1 zero zero-positive (later-left zero (on z_of));
-        x = later-right f2 (on xOf);
-        y = from-2 (on yOf) py (later-right f1 (on yOf));
+        x = later-right f2 (on x_of);
+        y = from-2 (on y_of) py (later-right f1 (on y_of));
         z = from-1 (on z_of) pz (later-right zero (on z_of));
       }
 
   module _ (r : LegReachesBox a b p d) where
-    inside : {c : Axis} → Between p d (r.w0 + r.w1) c (weightedSumLeg a b r.w0 r.w1 c) → Inside (c a) (c b) (c p) (c d) (pos r.w0) (pos r.w1)
+    inside : {c : Axis} → Between p d (r.w0 + r.w1) c (weighted_sum_leg a b r.w0 r.w1 c) → Inside (c a) (c b) (c p) (c d) (pos r.w0) (pos r.w1)
     inside h = record { from = h.from; to = h.to }
 
-    on-least : {c : Axis} → Between p d (r.w0 + r.w1) c (weightedSumLeg a b r.w0 r.w1 c) → AtMost (on c) (share r)
+    on-least : {c : Axis} → Between p d (r.w0 + r.w1) c (weighted_sum_leg a b r.w0 r.w1 c) → AtMost (on c) (share r)
     on-least {c} h = axis-least (c a) (c b) (c p) (c d) (pos r.w0) (pos r.w1) (nn-pos r.w1) (inside h)
 
     least : AtMost (entry a b p d) (share r)
@@ -126,8 +126,8 @@ module _ (a b p d : Point) where
       w : Weights (entry a b p d)
       w = weights (entry a b p d) r.w0 r.w1 entry-positive some four.start (least r)
 
-      there : {c : Axis} → AtMost (on c) (entry a b p d) → Between p d (r.w0 + r.w1) c (weightedSumLeg a b r.w0 r.w1 c)
-          → Between p d (w.u + w.v) c (weightedSumLeg a b w.u w.v c)
+      there : {c : Axis} → AtMost (on c) (entry a b p d) → Between p d (r.w0 + r.w1) c (weighted_sum_leg a b r.w0 r.w1 c)
+          → Between p d (w.u + w.v) c (weighted_sum_leg a b w.u w.v c)
       there {c} h k =
           let i = axis-at (c a) (c b) (c p) (c d) (pos r.w0) (pos r.w1) (pos w.u) (pos w.v) some (nn-pos (w.u + w.v)) (inside r k)
           (subst (AtMost (on c)) (sym w.is) h) (subst (λ f. AtMost f (share r)) (sym w.is) (least r)) in

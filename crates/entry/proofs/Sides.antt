@@ -14,13 +14,13 @@ use Rattle.integers.proofs.Omega.{lt-true, lt-false}
 use Rattle.integers.proofs.Expr.{Expr, var, num, ◌⊕◌, ◌⊖◌, ◌⊗◌}
 use Rattle.integers.proofs.Certificates.{nn, le, lt, eq, ◌⊞◌, ◌⊠◌, by_le, by-lt, by-le/}
 use Rattle.entry.specs.declared.Fraction.{Fraction}
-use Rattle.entry.specs.Entry.{over, entryOn}
+use Rattle.entry.specs.Entry.{over, entry_on}
 use Rattle.entry.specs.Inner.{AtMost, Positive}
 
 module _ (a b p d : ℤ) where
   by_way : (P : Fraction → Type 0) → (a <ℤ b → P (over (p -ℤ a) (b -ℤ a))) → (b <ℤ a → P (over (a -ℤ (p +ℤ d)) (a -ℤ b)))
-      → (a ≡ b → P (over (pos 0) (pos 1))) → P (entryOn a b p d)
-  unfolding entryOn
+      → (a ≡ b → P (over (pos 0) (pos 1))) → P (entry_on a b p d)
+  unfolding entry_on
   by_way P up down still = go (lt_z a b) (lt_z b a) refl refl
     where
       go : (s t : Bool) → lt_z a b ≡ s → lt_z b a ≡ t
@@ -29,7 +29,7 @@ module _ (a b p d : ℤ) where
       go false true e f = down (lt-true b a f)
       go false false e f = still (≤-antisymm (lt-false b a f) (lt-false a b e))
 
-  pub axis-positive : Positive (entryOn a b p d)
+  pub axis-positive : Positive (entry_on a b p d)
   axis-positive =
       let ρ = a ∷ b ∷ [] in
       by_way Positive (λ h. by-lt ρ (num 0) (var 1 ⊖ var 0) (lt (var 0) (var 1) h) tt)
@@ -61,7 +61,7 @@ module _ (a b p d : ℤ) where
   abbrev at : Expr
   at = W0 ⊗ A ⊕ W1 ⊗ B
 
-  pub axis-least : (w0 w1 : ℤ) → NN w1 → Inside w0 w1 → AtMost (entryOn a b p d) (over w1 (w0 +ℤ w1))
+  pub axis-least : (w0 w1 : ℤ) → NN w1 → Inside w0 w1 → AtMost (entry_on a b p d) (over w1 (w0 +ℤ w1))
   axis-least w0 w1 h i =
       let ρ = a ∷ b ∷ p ∷ d ∷ w0 ∷ w1 ∷ [] in
       by_way (λ f. AtMost f (over w1 (w0 +ℤ w1)))
@@ -69,7 +69,7 @@ module _ (a b p d : ℤ) where
       (λ _. by_le ρ ((A ⊖ Q) ⊗ (W0 ⊕ W1)) (W1 ⊗ (A ⊖ B)) (le at (Q ⊗ (W0 ⊕ W1)) i.to) tt)
       (λ _. by_le ρ (num 0 ⊗ (W0 ⊕ W1)) (W1 ⊗ num 1) (nn W1 h) tt)
 
-  pub axis-at : (w0 w1 u v : ℤ) → pos 0 <ℤ (w0 +ℤ w1) → NN (u +ℤ v) → Inside w0 w1 → AtMost (entryOn a b p d) (over v (u +ℤ v))
+  pub axis-at : (w0 w1 u v : ℤ) → pos 0 <ℤ (w0 +ℤ w1) → NN (u +ℤ v) → Inside w0 w1 → AtMost (entry_on a b p d) (over v (u +ℤ v))
       → AtMost (over v (u +ℤ v)) (over w1 (w0 +ℤ w1)) → Inside u v
   axis-at w0 w1 u v hw hu i =
       let ρ = a ∷ b ∷ p ∷ d ∷ w0 ∷ w1 ∷ u ∷ v ∷ [] in

@@ -3,7 +3,7 @@
 use Rattle.std.specs.Prelude.{Bool, cond, ℤ, pos, ◌+ℤ◌, ◌-ℤ◌, ◌*ℤ◌}
 use Rattle.std.specs.Int.Signed.{lt_z}
 use Rattle.geometry.specs.declared.Point.{Point}
-use Rattle.geometry.specs.Geometry.{Axis, xOf, yOf, z_of}
+use Rattle.geometry.specs.Geometry.{Axis, x_of, y_of, z_of}
 use Rattle.entry.specs.declared.Fraction.{Fraction}
 
 -- num / den, where den is positive. It need not be in lowest terms.
@@ -19,11 +19,11 @@ unfoldable pub later : (f g : Fraction) → Fraction
 later f g = cond (earlier f g) g f
 
 -- On an axis, the leg from a to b comes to the box from p to p + d: going up, at its low side; going down, at its high side; else it is there from the start.
-unfoldable pub entryOn : (a b p d : ℤ) → Fraction
-entryOn a b p d = cond (lt_z a b) (over (p -ℤ a) (b -ℤ a)) (cond (lt_z b a) (over (a -ℤ (p +ℤ d)) (a -ℤ b)) (over (pos 0) (pos 1)))
+unfoldable pub entry_on : (a b p d : ℤ) → Fraction
+entry_on a b p d = cond (lt_z a b) (over (p -ℤ a) (b -ℤ a)) (cond (lt_z b a) (over (a -ℤ (p +ℤ d)) (a -ℤ b)) (over (pos 0) (pos 1)))
 
 -- The box is entered when the leg has started and has come to it on every axis: at the greatest of 0 and of the axes' fractions.
 unfoldable pub entry : (a b p d : Point) → Fraction
 entry a b p d =
-    let on : Axis → Fraction = λ c. entryOn (c a) (c b) (c p) (c d) in
-    later (later (later (over (pos 0) (pos 1)) (on z_of)) (on yOf)) (on xOf)
+    let on : Axis → Fraction = λ c. entry_on (c a) (c b) (c p) (c d) in
+    later (later (later (over (pos 0) (pos 1)) (on z_of)) (on y_of)) (on x_of)

@@ -2,9 +2,9 @@
 use Rattle.std.specs.Prelude.{cond, List, [], ◌∷◌, ◌≡◌, ℕ, ◌+◌, ◌^◌, ℤ, pos, neg_ℤ, ◌+ℤ◌, ◌-ℤ◌, ◌*ℤ◌, ◌≤ℤ◌, ◌<ℤ◌}
 use Rattle.std.specs.Int.Signed.{lt_z}
 use Rattle.integers.specs.Within.{Within}
-use Rattle.geometry.specs.Bounds.{coordinateMax, stepMax, extentMax}
+use Rattle.geometry.specs.Bounds.{coordinate_max, step_max, extent_max}
 use Rattle.geometry.specs.declared.Point.{Point}
-use Rattle.geometry.specs.Geometry.{Axis, xOf, yOf, z_of}
+use Rattle.geometry.specs.Geometry.{Axis, x_of, y_of, z_of}
 use Rattle.grid.specs.declared.Lattice.{Lattice}
 use Rattle.reach.specs.Reaches.{LegReachesBox}
 use Rattle.entry.specs.declared.Fraction.{Fraction}
@@ -14,54 +14,54 @@ use Rattle.entry.specs.Entry.{over, later}
 
 -- ---- the entry fractions of a lattice's boxes
 -- On an axis, the leg from a to b comes to the boxes from `first` + i × `step` on at fractions whose numerators are linear in i.
-abbrev pub axisEntry : (num slope den : ℤ) → AxisEntry
-axisEntry n s d = record { num = n; slope = s; den = d }
+abbrev pub axis_entry : (num slope den : ℤ) → AxisEntry
+axis_entry n s d = record { num = n; slope = s; den = d }
 
-unfoldable pub axisEntryOf : (a b first step extent : ℤ) → AxisEntry
-axisEntryOf a b first step extent =
-    cond (lt_z a b) (axisEntry (first -ℤ a) step (b -ℤ a))
-    (cond (lt_z b a) (axisEntry (a -ℤ (first +ℤ extent)) (neg_ℤ step) (a -ℤ b)) (axisEntry (pos 0) (pos 0) (pos 1)))
+unfoldable pub axis_entry_of : (a b first step extent : ℤ) → AxisEntry
+axis_entry_of a b first step extent =
+    cond (lt_z a b) (axis_entry (first -ℤ a) step (b -ℤ a))
+    (cond (lt_z b a) (axis_entry (a -ℤ (first +ℤ extent)) (neg_ℤ step) (a -ℤ b)) (axis_entry (pos 0) (pos 0) (pos 1)))
 
-abbrev pub axisEntryIn : Lattice → (p q : Point) → Axis → AxisEntry
-axisEntryIn l p q a = axisEntryOf (a p) (a q) (a l.first) l.step l.extent
+abbrev pub axis_entry_in : Lattice → (p q : Point) → Axis → AxisEntry
+axis_entry_in l p q a = axis_entry_of (a p) (a q) (a l.first) l.step l.extent
 
-abbrev pub entriesOf : Lattice → (p q : Point) → Entries
-entriesOf l p q = record { x = axisEntryIn l p q xOf; y = axisEntryIn l p q yOf; z = axisEntryIn l p q z_of }
+abbrev pub entries_of : Lattice → (p q : Point) → Entries
+entries_of l p q = record { x = axis_entry_in l p q x_of; y = axis_entry_in l p q y_of; z = axis_entry_in l p q z_of }
 
 -- The fraction at which it comes to box i on an axis.
-abbrev pub entryBy : AxisEntry → ℕ → Fraction
-entryBy c i = over (c.num +ℤ c.slope *ℤ pos i) c.den
+abbrev pub entry_by : AxisEntry → ℕ → Fraction
+entry_by c i = over (c.num +ℤ c.slope *ℤ pos i) c.den
 
 -- The fraction at which it has started and has come to layer k; to row j of it; and to cell i of that, whose box it then enters.
-abbrev pub layerEntry : Entries → (k : ℕ) → Fraction
-layerEntry c k = later (over (pos 0) (pos 1)) (entryBy c.z k)
+abbrev pub layer_entry : Entries → (k : ℕ) → Fraction
+layer_entry c k = later (over (pos 0) (pos 1)) (entry_by c.z k)
 
-abbrev pub rowEntry : Entries → (j k : ℕ) → Fraction
-rowEntry c j k = later (layerEntry c k) (entryBy c.y j)
+abbrev pub row_entry : Entries → (j k : ℕ) → Fraction
+row_entry c j k = later (layer_entry c k) (entry_by c.y j)
 
-abbrev pub entryAt : Entries → (i j k : ℕ) → Fraction
-entryAt c i j k = later (rowEntry c j k) (entryBy c.x i)
+abbrev pub entry_at : Entries → (i j k : ℕ) → Fraction
+entry_at c i j k = later (row_entry c j k) (entry_by c.x i)
 
 -- ---- sizes
 -- Two ends of a leg, the first box's corner, the step and the extent, on an axis.
-abbrev pub entryBounds : List ℕ
-entryBounds = coordinateMax ∷ coordinateMax ∷ coordinateMax ∷ stepMax ∷ extentMax ∷ []
+abbrev pub entry_bounds : List ℕ
+entry_bounds = coordinate_max ∷ coordinate_max ∷ coordinate_max ∷ step_max ∷ extent_max ∷ []
 
 -- The numbers of a fraction, and of how a leg comes to boxes.
-abbrev pub fractionMax : ℕ
-fractionMax = 2 ^ 21
+abbrev pub fraction_max : ℕ
+fraction_max = 2 ^ 21
 
-abbrev pub axisEntryMax : ℕ
-axisEntryMax = 2 ^ 20
+abbrev pub axis_entry_max : ℕ
+axis_entry_max = 2 ^ 20
 
 pub record BoundedFraction (f : Fraction) : Type 0 where
-  pub num : Within fractionMax f.num
-  pub den : Within fractionMax f.den
+  pub num : Within fraction_max f.num
+  pub den : Within fraction_max f.den
 
 pub record BoundedAxisEntry (c : AxisEntry) : Type 0 where
-  pub num : Within axisEntryMax c.num
-  pub slope : Within stepMax c.slope
-  pub den : Within axisEntryMax c.den
+  pub num : Within axis_entry_max c.num
+  pub slope : Within step_max c.slope
+  pub den : Within axis_entry_max c.den
   pub positive : pos 0 <ℤ c.den
 
 pub record BoundedEntries (c : Entries) : Type 0 where

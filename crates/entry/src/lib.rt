@@ -1,10 +1,10 @@
 // Where along a leg a box is entered: the entry parameter of the slab method, as an exact fraction of the leg.
 ghost use Rattle.std.specs.Prelude.{[], ◌∷◌, ◌≡◌, ◌≤◌};
 ghost use Rattle.integers.specs.Within.{Withins};
-ghost use Rattle.geometry.specs.Bounds.{indexMax, BoundedPoint};
+ghost use Rattle.geometry.specs.Bounds.{index_max, BoundedPoint};
 ghost use Rattle.grid.specs.Usable.{UsableLattice};
 ghost use Rattle.entry.specs.Entry.{earlier, later};
-ghost use Rattle.entry.specs.Inner.{entryBounds, axisEntryOf, entriesOf, entryBy, entryAt, BoundedFraction, BoundedAxisEntry, BoundedEntries};
+ghost use Rattle.entry.specs.Inner.{entry_bounds, axis_entry_of, entries_of, entry_by, entry_at, BoundedFraction, BoundedAxisEntry, BoundedEntries};
 
 use geometry::Point;
 use grid::Lattice;
@@ -45,8 +45,8 @@ pub fn earlier(f: Fraction, g: Fraction) -> bool
 // On an axis, how the leg from a to b comes to the boxes that begin at `first`, `first` + `step` and so on: going up at
 // their low side, going down at their high side; else it is there from the start.
 fn axis_entry(a: i64, b: i64, first: i64, step: i64, extent: i64) -> AxisEntry
-    requires { Withins entryBounds (a ∷ b ∷ first ∷ step ∷ extent ∷ []) }
-    ensures { result ≡ axisEntryOf a b first step extent }
+    requires { Withins entry_bounds (a ∷ b ∷ first ∷ step ∷ extent ∷ []) }
+    ensures { result ≡ axis_entry_of a b first step extent }
 {
     if a < b {
         return AxisEntry {
@@ -72,7 +72,7 @@ fn axis_entry(a: i64, b: i64, first: i64, step: i64, extent: i64) -> AxisEntry
 // How the leg from a to b comes to the boxes of a lattice, on each axis.
 pub fn leg_entries(a: Point, b: Point, l: Lattice) -> Entries
     requires { BoundedPoint a × BoundedPoint b × UsableLattice l }
-    ensures { result ≡ entriesOf l a b }
+    ensures { result ≡ entries_of l a b }
 {
     let first = l.first;
     let step = l.step;
@@ -85,8 +85,8 @@ pub fn leg_entries(a: Point, b: Point, l: Lattice) -> Entries
 
 // The later of f and of the fraction at which the leg comes, on an axis, to box i.
 pub fn later_by(f: Fraction, c: AxisEntry, i: usize) -> Fraction
-    requires { BoundedFraction f × BoundedAxisEntry c × (i ≤ indexMax) }
-    ensures { result ≡ later f (entryBy c i) }
+    requires { BoundedFraction f × BoundedAxisEntry c × (i ≤ index_max) }
+    ensures { result ≡ later f (entry_by c i) }
 {
     let num = c.num + c.slope * integers::from_index(i);
     let g = Fraction { num, den: c.den };
@@ -98,8 +98,8 @@ pub fn later_by(f: Fraction, c: AxisEntry, i: usize) -> Fraction
 
 // The fraction at which the leg enters the box of cell (i, j, k): it has started, and has come to the box on every axis.
 pub fn entry_at(c: Entries, i: usize, j: usize, k: usize) -> Fraction
-    requires { BoundedEntries c × (i ≤ indexMax) × (j ≤ indexMax) × (k ≤ indexMax) }
-    ensures { result ≡ entryAt c i j k }
+    requires { BoundedEntries c × (i ≤ index_max) × (j ≤ index_max) × (k ≤ index_max) }
+    ensures { result ≡ entry_at c i j k }
 {
     let start = Fraction { num: 0, den: 1 };
     let on_z = later_by(start, c.z, k);

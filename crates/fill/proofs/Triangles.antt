@@ -11,12 +11,12 @@ use native.Mathlib.Numerals.{add-one}
 use native.Mathlib.Omega.{arith}
 use lib.Dec.{ltb}
 use Rattle.geometry.specs.declared.Triangle.{Triangle}
-use Rattle.grid.specs.Grid.{cellCount, latticeOf}
-use Rattle.map.specs.Map.{isFilled, tabulate}
-use Rattle.frame.specs.File.{headerOf, recordOf}
+use Rattle.grid.specs.Grid.{cell_count, lattice_of}
+use Rattle.map.specs.Map.{is_filled, tabulate}
+use Rattle.frame.specs.File.{header_of, record_of}
 use Rattle.triangles.specs.Add.{Adds}
-use Rattle.fill.specs.Fill.{obstacles, any_of, filledBy, gridOf, filledIn}
-use Rattle.fill.specs.Part.{trianglesFrom}
+use Rattle.fill.specs.Fill.{obstacles, any_of, filled_by, grid_of, filled_in}
+use Rattle.fill.specs.Part.{triangles_from}
 use Rattle.fill.specs.Inner.{AddsRecords}
 
 pub any_append : {A : Type 0} (p : A → Bool) (xs ys : List A) → any_of p (xs ++ ys) ≡ (any_of p xs || any_of p ys)
@@ -41,7 +41,7 @@ module _ (fills : ℕ → Triangle → Bool) (f : ℕ → Triangle) where
 
   module _ (cells : ℕ) where
     pub adds_none : (s : List ℕ) → Adds cells (λ n. any_of (fills n) (tabulate f 0)) s s
-    adds_none s = record { len = refl; each = λ n. rw (filled_none n) (sym (ap (λ (b : Bool). isFilled s n || b) (and-false (ltb n cells)) ∙ or-false (isFilled s n))) }
+    adds_none s = record { len = refl; each = λ n. rw (filled_none n) (sym (ap (λ (b : Bool). is_filled s n || b) (and-false (ltb n cells)) ∙ or-false (is_filled s n))) }
 
     pub adds-more : (i : ℕ) {a b c : List ℕ} → Adds cells (λ n. any_of (fills n) (tabulate f i)) a b → Adds cells (λ n. fills n (f i)) b c
         → Adds cells (λ n. any_of (fills n) (tabulate f (i + 1))) a c
@@ -59,10 +59,10 @@ tabulate-same h (suc n) = rw (tabulate-same h n, h n)
 from_zero : (i : ℕ) → 0 + i ≡ i
 from_zero i = omega arith
 
-all-records : (s : List ℕ) → trianglesFrom s 0 (headerOf s).count ≡ obstacles s
-unfolding trianglesFrom obstacles
-all-records s = tabulate-same (λ i. ap (λ (j : ℕ). (recordOf s j).triangle) (from_zero i)) (headerOf s).count
+all-records : (s : List ℕ) → triangles_from s 0 (header_of s).count ≡ obstacles s
+unfolding triangles_from obstacles
+all-records s = tabulate-same (λ i. ap (λ (j : ℕ). (record_of s j).triangle) (from_zero i)) (header_of s).count
 
-pub adds-all : (s : List ℕ) {old new : List ℕ} → AddsRecords s 0 (headerOf s).count old new → Adds (cellCount (gridOf s)) (filledIn s) old new
+pub adds-all : (s : List ℕ) {old new : List ℕ} → AddsRecords s 0 (header_of s).count old new → Adds (cell_count (grid_of s)) (filled_in s) old new
 adds-all s {old} {new} =
-    subst (λ (ts : List Triangle). Adds (cellCount (gridOf s)) (filledBy (gridOf s) (latticeOf (gridOf s)) ts) old new) (all-records s)
+    subst (λ (ts : List Triangle). Adds (cell_count (grid_of s)) (filled_by (grid_of s) (lattice_of (grid_of s)) ts) old new) (all-records s)

@@ -16,15 +16,15 @@ use lib.Dec.{ltb}
 use lib.ListN.{length, drop}
 use Rattle.layout.specs.declared.Header.{Header}
 use Rattle.layout.specs.declared.Record.{Record}
-use Rattle.grid.specs.Grid.{cellCount}
-use Rattle.frame.specs.File.{headerOf, recordOf}
+use Rattle.grid.specs.Grid.{cell_count}
+use Rattle.frame.specs.File.{header_of, record_of}
 use Rattle.refusal.specs.Limit.{gives}
-use Rattle.frame.specs.Questions.{withRecord, noRecord, contents, fileQuestions, reading}
+use Rattle.frame.specs.Questions.{with_record, no_record, contents, file_questions, reading}
 use Rattle.refusal.proofs.Asking.{asked-given}
-use Rattle.map.specs.Map.{mapLength, isFilled, countBelow, tabulate}
+use Rattle.map.specs.Map.{map_length, is_filled, count_below, tabulate}
 use Rattle.map.proofs.Counts.{count_same}
 use Rattle.map.proofs.Maps.{filled-map}
-use Rattle.fill.specs.Fill.{gridOf, obstacles, filledIn, fillQuestions, filling, filledBytes}
+use Rattle.fill.specs.Fill.{grid_of, obstacles, filled_in, fill_questions, filling, filled_bytes}
 use Rattle.fill.proofs.Answers.{left-given}
 
 -- ---- obstacles
@@ -37,26 +37,26 @@ tabulated f (suc n) i l = go (ℕ_discrete i n) (tabulated f n i)
     go (yes e) again = Memᴰ.append_right (tabulate f n) (Memᴰ.head (ap f e))
     go (no e) again = Memᴰ.append_left _ (again (omega arith))
 
-pub record-counts : (s : List ℕ) (i : ℕ) (h : Header) (r : Record) → reading s i ≡ gives (withRecord h r) → Memᴰ r.triangle (obstacles s)
+pub record-counts : (s : List ℕ) (i : ℕ) (h : Header) (r : Record) → reading s i ≡ gives (with_record h r) → Memᴰ r.triangle (obstacles s)
 unfolding reading obstacles
-record-counts s i h r e = go (ltb i (headerOf s).count) refl (asked-given (contents s (headerOf s) i) (fileQuestions s) e).1
+record-counts s i h r e = go (ltb i (header_of s).count) refl (asked-given (contents s (header_of s) i) (file_questions s) e).1
   where
-    go : (b : Bool) → ltb i (headerOf s).count ≡ b → cond b (withRecord (headerOf s) (recordOf s i)) (noRecord (headerOf s)) ≡ withRecord h r
+    go : (b : Bool) → ltb i (header_of s).count ≡ b → cond b (with_record (header_of s) (record_of s i)) (no_record (header_of s)) ≡ with_record h r
         → Memᴰ r.triangle (obstacles s)
     go false l q = let z : ◌≡◌ {A = ℕ} 0 1 = cc in absurd (omega arith)
     go true l q =
-        let same : recordOf s i ≡ r = cc in
-        rw (← same) (tabulated (λ j. (recordOf s j).triangle) (headerOf s).count i (ltb-true i _ l))
+        let same : record_of s i ≡ r = cc in
+        rw (← same) (tabulated (λ j. (record_of s j).triangle) (header_of s).count i (ltb-true i _ l))
 
 -- ---- the map and the count
 module _ (s m : List ℕ) (count : ℕ) (e : filling s m ≡ gives count) where
   abbrev cells : ℕ
-  cells = cellCount (gridOf s)
+  cells = cell_count (grid_of s)
 
-  pub rule-filled : (n : ℕ) → n < cells → isFilled (filledBytes s m) n ≡ filledIn s n
+  pub rule-filled : (n : ℕ) → n < cells → is_filled (filled_bytes s m) n ≡ filled_in s n
   rule-filled n l =
-      ap (λ (x : List ℕ). isFilled x n) (left-given s m e) ∙ filled-map (filledIn s) cells (drop (mapLength cells) m) n (omega arith) ∙ rw (lt-ltb n cells l)
+      ap (λ (x : List ℕ). is_filled x n) (left-given s m e) ∙ filled-map (filled_in s) cells (drop (map_length cells) m) n (omega arith) ∙ rw (lt-ltb n cells l)
 
-  pub count-filled : count ≡ countBelow (isFilled (filledBytes s m)) cells
+  pub count-filled : count ≡ count_below (is_filled (filled_bytes s m)) cells
   unfolding filling
-  count-filled = sym (asked-given _ (fillQuestions s (length m)) e).1 ∙ count_same (filledIn s) (isFilled (filledBytes s m)) cells (λ n l. sym (rule-filled n l))
+  count-filled = sym (asked-given _ (fill_questions s (length m)) e).1 ∙ count_same (filled_in s) (is_filled (filled_bytes s m)) cells (λ n l. sym (rule-filled n l))

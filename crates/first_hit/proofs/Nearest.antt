@@ -19,7 +19,7 @@ use Rattle.entry.specs.Inner.{Positive}
 use Rattle.entry.proofs.Fractions.{not_earlier, at-most-trans, earlier-trans}
 use Rattle.touch.specs.declared.Found.{Found}
 use Rattle.touch.specs.declared.Found.TheVariants.{Cell, Nothing}
-use Rattle.first_hit.specs.FirstHit.{orNearer, nearest}
+use Rattle.first_hit.specs.FirstHit.{or_nearer, nearest}
 use Rattle.first_hit.specs.Inner.{IsFirst}
 
 -- what is found says so much
@@ -36,7 +36,7 @@ below_suc {A} c h k m l = go (ℕ_discrete m c)
 
 module _ (p : ℕ → Bool) (f : ℕ → Fraction) (positive : (n : ℕ) → Positive (f n)) where
   -- one number more
-  with-next : (c : ℕ) (r : Found) (t : Bool) → p c ≡ t → Is p f c r → Is p f (suc c) (cond t (orNearer f r c) r)
+  with-next : (c : ℕ) (r : Found) (t : Bool) → p c ≡ t → Is p f c r → Is p f (suc c) (cond t (or_nearer f r c) r)
   with-next c Nothing false e h = below_suc c h e
   with-next c Nothing true e h = record {
     below = omega arith;
@@ -105,4 +105,4 @@ unfolding nearest
 nearest-same p q f h zero e d = refl
 nearest-same p q f h (suc c) e d = λ i.
     let before = nearest-same p q f h c (λ n l. e n (omega arith)) d in
-    cond (e c (omega arith) i) (orNearer (λ n. d n i) (before i) c) (before i)
+    cond (e c (omega arith) i) (or_nearer (λ n. d n i) (before i) c) (before i)

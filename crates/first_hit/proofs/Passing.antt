@@ -19,7 +19,7 @@ use Rattle.entry.specs.Inner.{AtMost, Positive}
 use Rattle.entry.proofs.Fractions.{not_earlier, at-most-trans, earlier-trans}
 use Rattle.touch.proofs.Scan.{either}
 use Rattle.first_hit.specs.declared.Best.{Best}
-use Rattle.first_hit.specs.Inner.{IsFirst, FirstBelow, nearerOf}
+use Rattle.first_hit.specs.Inner.{IsFirst, FirstBelow, nearer_of}
 
 module _ {p : ℕ → Bool} {f : ℕ → Fraction} where
   pub begin : {c n : ℕ} {at : Fraction} → p n ≡ true → ((m : ℕ) → m < n → p m ≡ false) → c ≤ n → at ≡ f n → FirstBelow p f c (record { cell = n; at = at })
@@ -46,8 +46,8 @@ module _ {p : ℕ → Bool} {f : ℕ → Fraction} where
       later m v u q false w = not_earlier (f m) best.at w
 
   module _ (positive : (n : ℕ) → Positive (f n)) where
-    pub meet : {c : ℕ} {best : Best} {at : Fraction} → p c ≡ true → at ≡ f c → FirstBelow p f c best → FirstBelow p f (c + 1) (nearerOf best c at)
-    meet {c} {best} has is h = subst (λ (g : Fraction). FirstBelow p f (c + 1) (nearerOf best c g)) (sym is) (go (earlier (f c) best.at) refl)
+    pub meet : {c : ℕ} {best : Best} {at : Fraction} → p c ≡ true → at ≡ f c → FirstBelow p f c best → FirstBelow p f (c + 1) (nearer_of best c at)
+    meet {c} {best} has is h = subst (λ (g : Fraction). FirstBelow p f (c + 1) (nearer_of best c g)) (sym is) (go (earlier (f c) best.at) refl)
       where
         best-positive : Positive best.at
         best-positive = subst Positive (sym h.is) (positive best.cell)

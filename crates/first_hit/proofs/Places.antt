@@ -14,23 +14,23 @@ use mathlib.Core.Path.{◌≡◌, sym, ap, ◌∙◌, subst}
 use Prim.Native.Nat.{ℕ, suc, ◌+◌, ◌-◌, ◌*◌, ◌/◌, ◌%◌, ◌<◌, ◌≤◌}
 use native.Mathlib.Nat.{mul_comm, mul_assoc, mul-suc, mul-le-mul, mul-le-mul_left, mod-lt, mod-add-div, le-div_iff_mul-le, div-lt_iff_lt-mul}
 use native.Mathlib.Omega.{arith}
-use Rattle.grid.specs.Cells.{cellNumber, xOfCell, yOfCell, zOfCell}
-use Rattle.grid.specs.Grid.{cellCount}
+use Rattle.grid.specs.Cells.{cell_number, x_of_cell, y_of_cell, z_of_cell}
+use Rattle.grid.specs.Grid.{cell_count}
 use Rattle.grid.proofs.Numbers.{number_lt, number-of, x-of, y_of, z-of}
-use Rattle.map.specs.Map.{isFilled}
+use Rattle.map.specs.Map.{is_filled}
 use Rattle.runs.proofs.Narrow.{range-in}
-use Rattle.legs.specs.Slab.{rowHolds, cellHolds}
+use Rattle.legs.specs.Slab.{row_holds, cell_holds}
 use Rattle.entry.specs.declared.Fraction.{Fraction}
 use Rattle.entry.specs.declared.Entries.{Entries}
 use Rattle.entry.specs.Entry.{earlier}
-use Rattle.entry.specs.Inner.{entryBy, layerEntry, rowEntry, entryAt, BoundedFraction, Positive}
+use Rattle.entry.specs.Inner.{entry_by, layer_entry, row_entry, entry_at, BoundedFraction, Positive}
 use Rattle.entry.proofs.Fractions.{later-left, at-most-trans, not-before}
 use Rattle.entry.proofs.Boxes.{at-bounded, layer-positive, row-positive, at-positive}
 use Rattle.touch.specs.Inner.{in_block}
 use Rattle.touch.proofs.Scan.{In, parts}
 use Rattle.first_hit.specs.declared.Best.{Best}
 use Rattle.first_hit.specs.declared.Traversal.{Traversal}
-use Rattle.first_hit.specs.Inner.{sought, entered, FirstBelow, FirstBefore, nearerOf, ReadyTraversal}
+use Rattle.first_hit.specs.Inner.{sought, entered, FirstBelow, FirstBefore, nearer_of, ReadyTraversal}
 use Rattle.first_hit.proofs.Passing.{pass, meet}
 
 -- the row of a number
@@ -48,7 +48,7 @@ module _ {s : List ℕ} {h : Traversal} (ready : ReadyTraversal s h) where
   ny = h.g.ny
 
   abbrev number : (i j k : ℕ) → ℕ
-  number = cellNumber nx ny
+  number = cell_number nx ny
 
   abbrev some-x : 0 < nx
   some-x = ready.grid.within.x.some
@@ -61,27 +61,27 @@ module _ {s : List ℕ} {h : Traversal} (ready : ReadyTraversal s h) where
     pub x : In h.block.x i
     pub y : In h.block.y j
     pub z : In h.block.z k
-    pub row : rowHolds h.slabs k j ≡ true
-    pub cell : cellHolds h.slabs i j k ≡ true
+    pub row : row_holds h.slabs k j ≡ true
+    pub cell : cell_holds h.slabs i j k ≡ true
 
-  pub sought-parts : (n : ℕ) → sought s h n ≡ true → (isFilled s n ≡ true) × Sought (xOfCell nx n) (yOfCell nx ny n) (zOfCell nx ny n)
+  pub sought-parts : (n : ℕ) → sought s h n ≡ true → (is_filled s n ≡ true) × Sought (x_of_cell nx n) (y_of_cell nx ny n) (z_of_cell nx ny n)
   sought-parts n e =
-      let (full, there) = (and-eq-true_iff (isFilled s n) (in_block h.slabs h.block (xOfCell nx n) (yOfCell nx ny n) (zOfCell nx ny n))).0 e in
+      let (full, there) = (and-eq-true_iff (is_filled s n) (in_block h.slabs h.block (x_of_cell nx n) (y_of_cell nx ny n) (z_of_cell nx ny n))).0 e in
       let w = parts s h.g h.slabs h.block ready.block _ _ _ there in
       (full, record { x = w.0; y = w.1; z = w.2; row = w.3; cell = w.4 })
 
-  pub below-count : (n : ℕ) → sought s h n ≡ true → n < cellCount h.g
+  pub below-count : (n : ℕ) → sought s h n ≡ true → n < cell_count h.g
   below-count n e =
       let w = (sought-parts n e).1 in
       let b = ready.block in
-      subst (λ (m : ℕ). m < cellCount h.g) (number-of nx ny n)
-      (number_lt nx ny h.g.nz (xOfCell nx n) (yOfCell nx ny n) (zOfCell nx ny n) (omega (arith, w.x.1, b.x)) (omega (arith, w.y.1, b.y)) (omega (arith, w.z.1, b.z)))
+      subst (λ (m : ℕ). m < cell_count h.g) (number-of nx ny n)
+      (number_lt nx ny h.g.nz (x_of_cell nx n) (y_of_cell nx ny n) (z_of_cell nx ny n) (omega (arith, w.x.1, b.x)) (omega (arith, w.y.1, b.y)) (omega (arith, w.z.1, b.z)))
 
   -- a grid has at most 262,144 cells
-  pub count-more : {n : ℕ} → n ≤ cellCount h.g → n ≤ 262144
+  pub count-more : {n : ℕ} → n ≤ cell_count h.g → n ≤ 262144
   count-more l = let g = ready.grid.within in omega (arith, l, mul-le-mul (mul-le-mul g.x.most g.y.most) g.z.most)
 
-  pub count_most : {n : ℕ} → n < cellCount h.g → n ≤ 262144
+  pub count_most : {n : ℕ} → n < cell_count h.g → n ≤ 262144
   count_most l = count-more (omega (arith, l))
 
   -- the cell kept is one that is looked for, so that its numbers are small
@@ -98,19 +98,19 @@ module _ {s : List ℕ} {h : Traversal} (ready : ReadyTraversal s h) where
     e = h.entries
 
     best-positive : Positive best.at
-    best-positive = rw b.is (let n = best.cell in at-positive ready.entries (xOfCell nx n) (yOfCell nx ny n) (zOfCell nx ny n))
+    best-positive = rw b.is (let n = best.cell in at-positive ready.entries (x_of_cell nx n) (y_of_cell nx ny n) (z_of_cell nx ny n))
 
-    pub late-row : earlier (rowEntry h.entries j k) best.at ≡ false → earlier (entryAt h.entries i j k) best.at ≡ true → ⊥
-    late-row = not-before (rowEntry e j k) (entryAt e i j k) best.at (row-positive ready.entries j k) (at-positive ready.entries i j k) best-positive (later-left (rowEntry e j k) (entryBy e.x i))
+    pub late-row : earlier (row_entry h.entries j k) best.at ≡ false → earlier (entry_at h.entries i j k) best.at ≡ true → ⊥
+    late-row = not-before (row_entry e j k) (entry_at e i j k) best.at (row-positive ready.entries j k) (at-positive ready.entries i j k) best-positive (later-left (row_entry e j k) (entry_by e.x i))
 
-    pub late-layer : earlier (layerEntry h.entries k) best.at ≡ false → earlier (entryAt h.entries i j k) best.at ≡ true → ⊥
+    pub late-layer : earlier (layer_entry h.entries k) best.at ≡ false → earlier (entry_at h.entries i j k) best.at ≡ true → ⊥
     late-layer =
-        not-before (layerEntry e k) (entryAt e i j k) best.at (layer-positive ready.entries k) (at-positive ready.entries i j k) best-positive
-        (at-most-trans (layerEntry e k) (rowEntry e j k) (entryAt e i j k) (layer-positive ready.entries k) (row-positive ready.entries j k) (at-positive ready.entries i j k)
-        (later-left (layerEntry e k) (entryBy e.y j)) (later-left (rowEntry e j k) (entryBy e.x i)))
+        not-before (layer_entry e k) (entry_at e i j k) best.at (layer-positive ready.entries k) (at-positive ready.entries i j k) best-positive
+        (at-most-trans (layer_entry e k) (row_entry e j k) (entry_at e i j k) (layer-positive ready.entries k) (row-positive ready.entries j k) (at-positive ready.entries i j k)
+        (later-left (layer_entry e k) (entry_by e.y j)) (later-left (row_entry e j k) (entry_by e.x i)))
 
   -- ---- a row, whose cells are numbered from `row`
-  module _ {row : ℕ} (j k : ℕ) (hj : j < ny) (is : row ≡ cellNumber h.g.nx h.g.ny 0 j k) where
+  module _ {row : ℕ} (j k : ℕ) (hj : j < ny) (is : row ≡ cell_number h.g.nx h.g.ny 0 j k) where
     pub row-start : {best : Best} → FirstBefore s h j k best → FirstBelow (sought s h) (entered h) (row + 0) best
     row-start {best} b = let e : number 0 j k ≡ row + 0 = omega (arith, is) in subst (λ (c : ℕ). FirstBelow (sought s h) (entered h) c best) e b
 
@@ -121,39 +121,39 @@ module _ {s : List ℕ} {h : Traversal} (ready : ReadyTraversal s h) where
         subst (λ (c : ℕ). FirstBelow (sought s h) (entered h) c best) e b
 
     pub pass-cells : {best : Best} (i c : ℕ) → i ≤ c → c ≤ h.g.nx
-        → ((n : ℕ) → i ≤ n → n < c → isFilled s (row + n) ≡ true → Sought n j k → earlier (entryAt h.entries n j k) best.at ≡ true → ⊥)
+        → ((n : ℕ) → i ≤ n → n < c → is_filled s (row + n) ≡ true → Sought n j k → earlier (entry_at h.entries n j k) best.at ≡ true → ⊥)
         → FirstBelow (sought s h) (entered h) (row + i) best → FirstBelow (sought s h) (entered h) (row + c) best
     pass-cells i c l u never = pass (omega arith) (λ m v w q e.
         let n = m - row in
         let there : row + n ≡ m = omega arith in
         let at : number n j k ≡ m = omega (arith, is) in
         let hn : n < nx = omega arith in
-        let x = sym (ap (xOfCell nx) at) ∙ x-of nx ny n j k hn in
-        let y = sym (ap (yOfCell nx ny) at) ∙ y_of nx ny n j k hn hj in
-        let z = sym (ap (zOfCell nx ny) at) ∙ z-of nx ny n j k hn hj in
+        let x = sym (ap (x_of_cell nx) at) ∙ x-of nx ny n j k hn in
+        let y = sym (ap (y_of_cell nx ny) at) ∙ y_of nx ny n j k hn hj in
+        let z = sym (ap (z_of_cell nx ny) at) ∙ z-of nx ny n j k hn hj in
         let (full, looked) = sought-parts m q in
-        never n (omega arith) (omega arith) (ap (isFilled s) there ∙ full) (rw (x, y, z) at looked) (rw (x, y, z) at e))
+        never n (omega arith) (omega arith) (ap (is_filled s) there ∙ full) (rw (x, y, z) at looked) (rw (x, y, z) at e))
 
     -- a cell of the row that is looked for
-    pub meet-cell : {best : Best} {at : Fraction} (i : ℕ) → i < h.g.nx → isFilled s (row + i) ≡ true → Sought i j k → at ≡ entryAt h.entries i j k
-        → FirstBelow (sought s h) (entered h) (row + i) best → FirstBelow (sought s h) (entered h) (row + (i + 1)) (nearerOf best (row + i) at)
+    pub meet-cell : {best : Best} {at : Fraction} (i : ℕ) → i < h.g.nx → is_filled s (row + i) ≡ true → Sought i j k → at ≡ entry_at h.entries i j k
+        → FirstBelow (sought s h) (entered h) (row + i) best → FirstBelow (sought s h) (entered h) (row + (i + 1)) (nearer_of best (row + i) at)
     meet-cell {best} {at} i hi full w e b =
         let there : number i j k ≡ row + i = omega (arith, is) in
-        let x = sym (ap (xOfCell nx) there) ∙ x-of nx ny i j k hi in
-        let y = sym (ap (yOfCell nx ny) there) ∙ y_of nx ny i j k hi hj in
-        let z = sym (ap (zOfCell nx ny) there) ∙ z-of nx ny i j k hi hj in
+        let x = sym (ap (x_of_cell nx) there) ∙ x-of nx ny i j k hi in
+        let y = sym (ap (y_of_cell nx ny) there) ∙ y_of nx ny i j k hi hj in
+        let z = sym (ap (z_of_cell nx ny) there) ∙ z-of nx ny i j k hi hj in
         let r = h.block in
         let has : sought s h (row + i) ≡ true =
         rw (x, y, z, full, range-in r.x i w.x.0 w.x.1, range-in r.y j w.y.0 w.y.1, range-in r.z k w.z.0 w.z.1, w.row, w.cell) in
-        let enters : entryAt h.entries i j k ≡ entered h (row + i) = rw (x, y, z) in
+        let enters : entry_at h.entries i j k ≡ entered h (row + i) = rw (x, y, z) in
         let next : row + i + 1 ≡ row + (i + 1) = omega arith in
-        subst (λ (c : ℕ). FirstBelow (sought s h) (entered h) c (nearerOf best (row + i) at)) next
-        (meet (λ n. at-positive ready.entries (xOfCell nx n) (yOfCell nx ny n) (zOfCell nx ny n)) has (e ∙ enters) b)
+        subst (λ (c : ℕ). FirstBelow (sought s h) (entered h) c (nearer_of best (row + i) at)) next
+        (meet (λ n. at-positive ready.entries (x_of_cell nx n) (y_of_cell nx ny n) (z_of_cell nx ny n)) has (e ∙ enters) b)
 
   -- ---- a layer
   module _ {best : Best} (k : ℕ) where
     pub pass-rows : (j c : ℕ) → j ≤ c → c ≤ ny
-        → ((i n : ℕ) → j ≤ n → n < c → Sought i n k → earlier (entryAt h.entries i n k) best.at ≡ true → ⊥) → FirstBefore s h j k best → FirstBefore s h c k best
+        → ((i n : ℕ) → j ≤ n → n < c → Sought i n k → earlier (entry_at h.entries i n k) best.at ≡ true → ⊥) → FirstBefore s h j k best → FirstBefore s h c k best
     pass-rows j c l u never = pass (omega (arith, mul-le-mul_left nx more)) (λ m v w q e.
         let i = m % nx in
         let r = m / nx in
@@ -163,8 +163,8 @@ module _ {s : List ℕ} {h : Traversal} (ready : ReadyTraversal s h) where
         let row : n + ny * k ≡ r = omega arith in
         let at : number i n k ≡ m = ap (λ (r : ℕ). i + nx * r) row ∙ mod-add-div m nx in
         let hn : n < ny = omega arith in
-        let y = sym (ap (yOfCell nx ny) at) ∙ y_of nx ny i n k (mod-lt m some-x) hn in
-        let z = sym (ap (zOfCell nx ny) at) ∙ z-of nx ny i n k (mod-lt m some-x) hn in
+        let y = sym (ap (y_of_cell nx ny) at) ∙ y_of nx ny i n k (mod-lt m some-x) hn in
+        let z = sym (ap (z_of_cell nx ny) at) ∙ z-of nx ny i n k (mod-lt m some-x) hn in
         never i n (omega arith) (omega arith) (rw (y, z) at (sought-parts m q).1) (rw (y, z) at e))
       where
         more : j + ny * k ≤ c + ny * k
@@ -175,14 +175,14 @@ module _ {s : List ℕ} {h : Traversal} (ready : ReadyTraversal s h) where
 
   -- ---- the grid
   -- the first number of layer k
-  pub layer-low : (n : ℕ) → number 0 0 (zOfCell nx ny n) ≤ n
+  pub layer-low : (n : ℕ) → number 0 0 (z_of_cell nx ny n) ≤ n
   layer-low n =
-      let k = zOfCell nx ny n in
-      let j = yOfCell nx ny n in
+      let k = z_of_cell nx ny n in
+      let j = y_of_cell nx ny n in
       let more : 0 + ny * k ≤ j + ny * k = omega arith in
       omega (arith, number-of nx ny n, mul-le-mul_left nx more)
 
-  pub pass-layers : {best : Best} (k : ℕ) → h.block.z.end ≤ k → k ≤ h.g.nz → FirstBefore s h 0 k best → FirstBelow (sought s h) (entered h) (cellCount h.g) best
+  pub pass-layers : {best : Best} (k : ℕ) → h.block.z.end ≤ k → k ≤ h.g.nz → FirstBefore s h 0 k best → FirstBelow (sought s h) (entered h) (cell_count h.g) best
   pass-layers k far l = pass (omega (arith, layer, mul-le-mul_left (nx * ny) l)) (λ m v w q e.
       let up = row_from ny k (m / nx) some-y (row_from nx (ny * k) m some-x (omega (arith, layer, mul_assoc nx ny k))) in
       omega (arith, (sought-parts m q).1.z.1))

@@ -3,31 +3,31 @@ use Rattle.std.specs.Prelude.{Bool, cond, ◌&&◌, ℕ, zero, suc}
 use Rattle.geometry.specs.declared.Point.{Point}
 use Rattle.geometry.specs.Geometry.{leg, cube}
 use Rattle.grid.specs.declared.Grid.{Grid}
-use Rattle.grid.specs.Grid.{cellCount, latticeOf, cornerOf}
-use Rattle.overlap.specs.Cells.{overlapsCell}
+use Rattle.grid.specs.Grid.{cell_count, lattice_of, corner_of}
+use Rattle.overlap.specs.Cells.{overlaps_cell}
 use Rattle.entry.specs.declared.Fraction.{Fraction}
 use Rattle.entry.specs.Entry.{earlier, entry}
 use Rattle.touch.specs.declared.Found.{Found}
 use Rattle.touch.specs.declared.Found.TheVariants.{Cell, Nothing}
 
 -- What was found before, and number n: it takes the place of that one only where its fraction is less.
-abbrev pub orNearer : (ℕ → Fraction) → Found → ℕ → Found
-orNearer f (Cell m) n = cond (earlier (f n) (f m)) (Cell n) (Cell m)
-orNearer f Nothing n = Cell n
+abbrev pub or_nearer : (ℕ → Fraction) → Found → ℕ → Found
+or_nearer f (Cell m) n = cond (earlier (f n) (f m)) (Cell n) (Cell m)
+or_nearer f Nothing n = Cell n
 
 -- Of the numbers below n that have the property, the one with the least fraction, and of equal fractions the lowest number.
 unfoldable pub nearest : (ℕ → Bool) → (ℕ → Fraction) → ℕ → Found
 nearest p f zero = Nothing
-nearest p f (suc n) = cond (p n) (orNearer f (nearest p f n) n) (nearest p f n)
+nearest p f (suc n) = cond (p n) (or_nearer f (nearest p f n) n) (nearest p f n)
 
 -- Cell n is filled, and the leg from a to b touches it: the overlap rule holds for the leg, which is a triangle, and the cell.
-abbrev pub filledAndTouched : (filled : ℕ → Bool) → Grid → (a b : Point) → ℕ → Bool
-filledAndTouched filled g a b n = filled n && overlapsCell g (latticeOf g) (leg a b) n
+abbrev pub filled_and_touched : (filled : ℕ → Bool) → Grid → (a b : Point) → ℕ → Bool
+filled_and_touched filled g a b n = filled n && overlaps_cell g (lattice_of g) (leg a b) n
 
 -- The fraction of the leg from a to b at which it enters cell n.
-abbrev pub entryOfCell : Grid → (a b : Point) → ℕ → Fraction
-entryOfCell g a b n = entry a b (cornerOf g n) (cube g.edge)
+abbrev pub entry_of_cell : Grid → (a b : Point) → ℕ → Fraction
+entry_of_cell g a b n = entry a b (corner_of g n) (cube g.edge)
 
 -- The cell that the leg from a to b reaches first, of those that are filled and touched.
-unfoldable pub firstHit : (filled : ℕ → Bool) → Grid → (a b : Point) → Found
-firstHit filled g a b = nearest (filledAndTouched filled g a b) (entryOfCell g a b) (cellCount g)
+unfoldable pub first_hit : (filled : ℕ → Bool) → Grid → (a b : Point) → Found
+first_hit filled g a b = nearest (filled_and_touched filled g a b) (entry_of_cell g a b) (cell_count g)

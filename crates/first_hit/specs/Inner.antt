@@ -1,13 +1,13 @@
 -- What the search for the cell reached first goes by, and what it has found. Definitions only; no public promise cites them.
 use Rattle.std.specs.Prelude.{Bool, true, cond, List, ◌≡◌, ℕ, ◌<◌, ◌≤◌, length}
-use Rattle.grid.specs.Cells.{xOfCell, yOfCell, zOfCell, cellNumber}
-use Rattle.grid.specs.Grid.{cellCount}
+use Rattle.grid.specs.Cells.{x_of_cell, y_of_cell, z_of_cell, cell_number}
+use Rattle.grid.specs.Grid.{cell_count}
 use Rattle.grid.specs.Usable.{BoundedGrid}
-use Rattle.map.specs.Map.{mapLength, isFilled}
-use Rattle.legs.specs.Slab.{rowHolds, BoundedSlabs}
+use Rattle.map.specs.Map.{map_length, is_filled}
+use Rattle.legs.specs.Slab.{row_holds, BoundedSlabs}
 use Rattle.entry.specs.declared.Fraction.{Fraction}
 use Rattle.entry.specs.Entry.{earlier}
-use Rattle.entry.specs.Inner.{entryAt, AtMost, BoundedEntries}
+use Rattle.entry.specs.Inner.{entry_at, AtMost, BoundedEntries}
 use Rattle.touch.specs.Inner.{wanted, InGrid}
 use Rattle.first_hit.specs.declared.Best.{Best}
 use Rattle.first_hit.specs.declared.Traversal.{Traversal}
@@ -29,25 +29,25 @@ pub record FirstBelow (p : ℕ → Bool) (f : ℕ → Fraction) (c : ℕ) (best 
   pub ahead : (m : ℕ) → c ≤ m → p m ≡ true → best.cell ≤ m
 
 -- Number n, entered at f, takes the place of the one found so far only where f is less.
-abbrev pub nearerOf : Best → ℕ → Fraction → Best
-nearerOf best n f = cond (earlier f best.at) (record { cell = n; at = f }) best
+abbrev pub nearer_of : Best → ℕ → Fraction → Best
+nearer_of best n f = cond (earlier f best.at) (record { cell = n; at = f }) best
 
 -- ---- a leg in a grid
 -- The cells looked for, and the fraction at which the leg enters each.
 abbrev pub sought : List ℕ → Traversal → ℕ → Bool
-sought s t = wanted (isFilled s) t.g t.slabs t.block
+sought s t = wanted (is_filled s) t.g t.slabs t.block
 
 abbrev pub entered : Traversal → ℕ → Fraction
-entered t n = entryAt t.entries (xOfCell t.g.nx n) (yOfCell t.g.nx t.g.ny n) (zOfCell t.g.nx t.g.ny n)
+entered t n = entry_at t.entries (x_of_cell t.g.nx n) (y_of_cell t.g.nx t.g.ny n) (z_of_cell t.g.nx t.g.ny n)
 
 -- `best` is the first of the cells before row j of layer k.
 abbrev pub FirstBefore : List ℕ → Traversal → (j k : ℕ) → Best → Type 0
-FirstBefore s t j k best = FirstBelow (sought s t) (entered t) (cellNumber t.g.nx t.g.ny 0 j k) best
+FirstBefore s t j k best = FirstBelow (sought s t) (entered t) (cell_number t.g.nx t.g.ny 0 j k) best
 
 -- What the search asks: a usable grid, a map with room for it, and a leg's slabs, block and entries as they are computed.
 pub record ReadyTraversal (s : List ℕ) (t : Traversal) : Type 0 where
   pub grid : BoundedGrid t.g
-  pub room : mapLength (cellCount t.g) ≤ length s
+  pub room : map_length (cell_count t.g) ≤ length s
   pub slabs : BoundedSlabs t.slabs
   pub block : InGrid t.g t.block
   pub entries : BoundedEntries t.entries
@@ -61,4 +61,4 @@ pub record RowOf (t : Traversal) (j k : ℕ) : Type 0 where
   pub layer : LayerOf t k
   pub from : t.block.y.first ≤ j
   pub to : j < t.block.y.end
-  pub holds : rowHolds t.slabs k j ≡ true
+  pub holds : row_holds t.slabs k j ≡ true

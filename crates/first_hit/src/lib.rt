@@ -1,16 +1,16 @@
 // The filled cell that a leg reaches first.
 ghost use Rattle.std.specs.Prelude.{◌≡◌, ◌+◌, ◌/◌, ◌%◌, ◌<◌, ◌≤◌, length};
 ghost use Rattle.geometry.specs.Bounds.{BoundedPoint};
-ghost use Rattle.grid.specs.Grid.{cellCount};
+ghost use Rattle.grid.specs.Grid.{cell_count};
 ghost use Rattle.grid.specs.Usable.{BoundedGrid};
-ghost use Rattle.map.specs.Map.{mapLength, isFilled};
+ghost use Rattle.map.specs.Map.{map_length, is_filled};
 ghost use Rattle.runs.specs.Run.{Narrows};
-ghost use Rattle.legs.specs.Slab.{rowHolds};
-ghost use Rattle.entry.specs.Inner.{layerEntry, rowEntry, BoundedFraction};
+ghost use Rattle.legs.specs.Slab.{row_holds};
+ghost use Rattle.entry.specs.Inner.{layer_entry, row_entry, BoundedFraction};
 ghost use Rattle.touch.specs.Inner.{Lowest};
 ghost use Rattle.touch.specs.declared.Found.TheVariants.{Cell};
-ghost use Rattle.first_hit.specs.FirstHit.{nearest, firstHit};
-ghost use Rattle.first_hit.specs.Inner.{nearerOf, sought, entered, FirstBefore, ReadyTraversal, LayerOf, RowOf};
+ghost use Rattle.first_hit.specs.FirstHit.{nearest, first_hit};
+ghost use Rattle.first_hit.specs.Inner.{nearer_of, sought, entered, FirstBefore, ReadyTraversal, LayerOf, RowOf};
 
 use entry::{Entries, Fraction};
 use geometry::Point;
@@ -38,8 +38,8 @@ pub struct Best {
 // The filled cell that the leg from a to b reaches first. A leg that touches no filled cell is searched once, for the
 // lowest; only where there is one it is searched again.
 pub fn first_hit(g: Grid, map: &[u8], a: Point, b: Point) -> Found
-    requires { BoundedGrid g × (mapLength (cellCount g) ≤ length map.now) × BoundedPoint a × BoundedPoint b }
-    ensures { result ≡ firstHit (isFilled map.now) g a b }
+    requires { BoundedGrid g × (map_length (cell_count g) ≤ length map.now) × BoundedPoint a × BoundedPoint b }
+    ensures { result ≡ first_hit (is_filled map.now) g a b }
 {
     let l = grid::lattice_of(g);
     let block = ranges::box_range(a, b, b, l, g.nx, g.ny, g.nz);
@@ -62,8 +62,8 @@ pub fn first_hit(g: Grid, map: &[u8], a: Point, b: Point) -> Found
 // The cell reached first, where n is the lowest. Layers below n's have none, and a layer that the leg comes to no earlier
 // than it enters the cell found so far has none before that.
 fn search(t: Traversal, map: &[u8], n: usize) -> usize
-    requires { ReadyTraversal map.now t × Lowest (sought map.now t) (cellCount t.g) (Cell n) }
-    ensures { nearest (sought map.now t) (entered t) (cellCount t.g) ≡ Cell result }
+    requires { ReadyTraversal map.now t × Lowest (sought map.now t) (cell_count t.g) (Cell n) }
+    ensures { nearest (sought map.now t) (entered t) (cell_count t.g) ≡ Cell result }
 {
     let g = t.g;
     let block = t.block;
@@ -99,7 +99,7 @@ fn search_layer(
     rows: CellRange,
     k: usize,
 ) -> Best
-    requires { ReadyTraversal map.now t × LayerOf t k × Narrows t.block.y (rowHolds t.slabs k) rows × (coming ≡ layerEntry t.entries k) × FirstBefore map.now t 0 k old }
+    requires { ReadyTraversal map.now t × LayerOf t k × Narrows t.block.y (row_holds t.slabs k) rows × (coming ≡ layer_entry t.entries k) × FirstBefore map.now t 0 k old }
     ensures { FirstBefore map.now t 0 (k + 1) result }
 {
     let entries = t.entries;
@@ -118,7 +118,7 @@ fn search_layer(
 // Passes row j of layer k. Its cells in the slab in XY are sought from where the cell found so far stands in its row; of
 // them those that are not filled are skipped.
 fn search_row(t: Traversal, map: &[u8], old: Best, coming: Fraction, j: usize, k: usize) -> Best
-    requires { ReadyTraversal map.now t × RowOf t j k × (coming ≡ rowEntry t.entries j k) × FirstBefore map.now t j k old }
+    requires { ReadyTraversal map.now t × RowOf t j k × (coming ≡ row_entry t.entries j k) × FirstBefore map.now t j k old }
     ensures { FirstBefore map.now t (j + 1) k result }
 {
     let g = t.g;
@@ -142,7 +142,7 @@ fn search_row(t: Traversal, map: &[u8], old: Best, coming: Fraction, j: usize, k
 // Cell n takes the place of the one found so far only where the leg enters it earlier.
 fn nearer(best: Best, n: usize, at: Fraction) -> Best
     requires { BoundedFraction best.at × BoundedFraction at }
-    ensures { result ≡ nearerOf best n at }
+    ensures { result ≡ nearer_of best n at }
 {
     if entry::earlier(at, best.at) {
         return Best { cell: n, at };

@@ -10,12 +10,12 @@ use Rattle.integers.proofs.Laws.{nn-mul}
 use Rattle.integers.proofs.Bounds.{within-add, within-sub, within-mul, within-neg, within-weaken}
 use Rattle.integers.proofs.MinMax.{within-max}
 use Rattle.integers.proofs.Orientation.{turned_by, orientation-nn}
-use Rattle.geometry.specs.Bounds.{offsetMax, differenceMax, normalMax, stepMax, extentMax, PointWithin, TriangleWithin}
+use Rattle.geometry.specs.Bounds.{offset_max, difference_max, normal_max, step_max, extent_max, PointWithin, TriangleWithin}
 use Rattle.geometry.specs.declared.Point.{Point}
 use Rattle.geometry.specs.declared.Triangle.{Triangle}
 use Rattle.overlap.specs.Rule.{normal, turned}
-use Rattle.forms.specs.Form.{insideMax, BoundedForm, BoundedEdge, BoundedPlane}
-use Rattle.forms.specs.Triangle.{component, edgeForm, insideFrom, edgeBetween, planeForm, EdgeReady}
+use Rattle.forms.specs.Form.{inside_max, BoundedForm, BoundedEdge, BoundedPlane}
+use Rattle.forms.specs.Triangle.{component, edge_form, inside_from, edge_between, plane_form, EdgeReady}
 
 pub within-zero : {B : ℕ} → Within B (pos 0)
 within-zero = record { within = zero-le }
@@ -33,13 +33,13 @@ within-size h = record { within = h.within }
 
 -- ---- the normal
 abbrev C : ℤ → Type 0
-C z = Within offsetMax z
+C z = Within offset_max z
 
-pub component-within : {a0 b0 a1 b1 a2 b2 : ℤ} → C a0 → C b0 → C a1 → C b1 → C a2 → C b2 → Within normalMax (component a0 b0 a1 b1 a2 b2)
+pub component-within : {a0 b0 a1 b1 a2 b2 : ℤ} → C a0 → C b0 → C a1 → C b1 → C a2 → C b2 → Within normal_max (component a0 b0 a1 b1 a2 b2)
 component-within h0 k0 h1 k1 h2 k2 =
     within-sub (within-mul (within-sub h1 h0) (within-sub k2 k0)) (within-mul (within-sub k1 k0) (within-sub h2 h0))
 
-pub normal-within : {t : Triangle} → TriangleWithin offsetMax t → PointWithin normalMax (normal t)
+pub normal-within : {t : Triangle} → TriangleWithin offset_max t → PointWithin normal_max (normal t)
 normal-within h =
     let a = h.v0 in
     let b = h.v1 in
@@ -51,19 +51,19 @@ normal-within h =
     }
 
 -- ---- the forms
-module _ {s d : ℤ} (hs : Within stepMax s) (hd : Within extentMax d) where
-  form-bounded : (n : ℤ) {ea eb va vb : ℤ} → Within differenceMax ea → Within differenceMax eb → C va → C vb → BoundedForm (edgeForm n ea eb va vb s d)
+module _ {s d : ℤ} (hs : Within step_max s) (hd : Within extent_max d) where
+  form-bounded : (n : ℤ) {ea eb va vb : ℤ} → Within difference_max ea → Within difference_max eb → C va → C vb → BoundedForm (edge_form n ea eb va vb s d)
   form-bounded n ha hb ka kb =
       let a = within-turned n (within-neg hb) in
       let b = within-turned n ha in
       let up = within-add (within-max _ _ within-zero a) (within-max _ _ within-zero b) in
       record { a = within-mul hs a; b = within-mul hs b; c = within-weaken (lit≤ tt) (within-sub (within-mul hd up) (within-add (within-mul a ka) (within-mul b kb))) }
 
-  inside-bounded : (n : ℤ) {ea eb : ℤ} → Within differenceMax ea → Within differenceMax eb → Within insideMax (insideFrom n ea eb d)
+  inside-bounded : (n : ℤ) {ea eb : ℤ} → Within difference_max ea → Within difference_max eb → Within inside_max (inside_from n ea eb d)
   inside-bounded n ha hb =
       within-cond (le_z (pos (nat_abs n)) (pos 0)) (record { within = lit≤ tt }) (within-weaken (lit≤ tt) (within-mul hd (within-add (within-size ha) (within-size hb))))
 
-  pub edge-bounded : {n p q : Point} → EdgeReady n p q s d → BoundedEdge (edgeBetween n p q s d)
+  pub edge-bounded : {n p q : Point} → EdgeReady n p q s d → BoundedEdge (edge_between n p q s d)
   edge-bounded {n} r =
       let p = r.from in
       let q = r.to in
@@ -77,7 +77,7 @@ module _ {s d : ℤ} (hs : Within stepMax s) (hd : Within extentMax d) where
         inside = inside-bounded n.z x y;
       }
 
-  pub plane-bounded : {n v : Point} → pos 0 ≤ℤ s → PointWithin normalMax n → PointWithin offsetMax v → BoundedPlane (planeForm n v s d)
+  pub plane-bounded : {n v : Point} → pos 0 ≤ℤ s → PointWithin normal_max n → PointWithin offset_max v → BoundedPlane (plane_form n v s d)
   plane-bounded {n} positive h k =
       let x = within-turned n.z h.x in
       let y = within-turned n.z h.y in

@@ -2,11 +2,11 @@
 // named u, v and w: x, y and z, or a turn of them. The numbers stand in one list, which is lent: a struct by value would be copied at each call.
 ghost use Rattle.std.specs.Prelude.{[], ◌∷◌, ◌≡◌, ◌^◌, ◌<◌, pos, ◌≤ℤ◌};
 ghost use Rattle.integers.specs.Within.{Within, Withins};
-ghost use Rattle.geometry.specs.Bounds.{offsetMax, stepMax, extentMax, TriangleWithin};
+ghost use Rattle.geometry.specs.Bounds.{offset_max, step_max, extent_max, TriangleWithin};
 ghost use Rattle.geometry.specs.Geometry.{point};
 ghost use Rattle.overlap.specs.Rule.{turned, normal};
-ghost use Rattle.forms.specs.Form.{formFrom, edge_at, planeAt, formList, BoundedEdge, BoundedPlane};
-ghost use Rattle.forms.specs.Triangle.{edgeForm, insideFrom, edgeBetween, planeForm, edgeBounds, insideBounds, planeBounds, EdgeReady, FormsFor};
+ghost use Rattle.forms.specs.Form.{form_from, edge_at, plane_at, form_list, BoundedEdge, BoundedPlane};
+ghost use Rattle.forms.specs.Triangle.{edge_form, inside_from, edge_between, plane_form, edge_bounds, inside_bounds, plane_bounds, EdgeReady, FormsFor};
 
 use geometry::{Point, Triangle};
 
@@ -47,8 +47,8 @@ fn turned(n: i64, c: i64) -> i64
 
 // The edge (ea, eb) from the corner (va, vb), where n is the normal's component on the third axis.
 pub fn edge_form(n: i64, ea: i64, eb: i64, va: i64, vb: i64, step: i64, extent: i64) -> EdgeForm
-    requires { Withins edgeBounds (ea ∷ eb ∷ va ∷ vb ∷ step ∷ extent ∷ []) }
-    ensures { result ≡ edgeForm n ea eb va vb step extent }
+    requires { Withins edge_bounds (ea ∷ eb ∷ va ∷ vb ∷ step ∷ extent ∷ []) }
+    ensures { result ≡ edge_form n ea eb va vb step extent }
 {
     let ma = turned(n, -eb);
     let mb = turned(n, ea);
@@ -64,8 +64,8 @@ pub fn edge_form(n: i64, ea: i64, eb: i64, va: i64, vb: i64, step: i64, extent: 
 
 // The value from which on a square is inside of the edge (ea, eb). More than any, where the normal is 0 on w: there no edge is left out.
 fn inside_from(n: i64, ea: i64, eb: i64, extent: i64) -> i64
-    requires { Withins insideBounds (n ∷ ea ∷ eb ∷ extent ∷ []) }
-    ensures { result ≡ insideFrom n ea eb extent }
+    requires { Withins inside_bounds (n ∷ ea ∷ eb ∷ extent ∷ []) }
+    ensures { result ≡ inside_from n ea eb extent }
 {
     let steep = integers::magnitude(n);
     if steep <= 0 {
@@ -79,7 +79,7 @@ fn inside_from(n: i64, ea: i64, eb: i64, extent: i64) -> i64
 // The edge from one corner to the next, where n is the normal.
 fn edge_between(n: Point, from: Point, to: Point, step: i64, extent: i64) -> Edge
     requires { EdgeReady n from to step extent }
-    ensures { result ≡ edgeBetween n from to step extent }
+    ensures { result ≡ edge_between n from to step extent }
 {
     let px = from.x;
     let py = from.y;
@@ -105,8 +105,8 @@ pub fn plane_form(
     step: i64,
     extent: i64,
 ) -> PlaneForm
-    requires { Withins planeBounds (nx ∷ ny ∷ nz ∷ x ∷ y ∷ z ∷ step ∷ extent ∷ []) }
-    ensures { result ≡ planeForm (point nx ny nz) (point x y z) step extent }
+    requires { Withins plane_bounds (nx ∷ ny ∷ nz ∷ x ∷ y ∷ z ∷ step ∷ extent ∷ []) }
+    ensures { result ≡ plane_form (point nx ny nz) (point x y z) step extent }
 {
     let mx = turned(nz, nx);
     let my = turned(nz, ny);
@@ -129,7 +129,7 @@ pub fn plane_form(
 // The numbers in one list: ten for each edge, then the plane's.
 fn form_list(p: PlaneForm, e0: Edge, e1: Edge, e2: Edge) -> [i64; 35]
     requires { BoundedPlane p × BoundedEdge e0 × BoundedEdge e1 × BoundedEdge e2 }
-    ensures { result ≡ formList p e0 e1 e2 }
+    ensures { result ≡ form_list p e0 e1 e2 }
 {
     [
         e0.uv.a, e0.uv.b, e0.uv.c, e0.vw.a, e0.vw.b, e0.vw.c, e0.wu.a, e0.wu.b, e0.wu.c, e0.inside,
@@ -141,7 +141,7 @@ fn form_list(p: PlaneForm, e0: Edge, e1: Edge, e2: Edge) -> [i64; 35]
 
 // The forms of a triangle with normal n. The corners are measured from the lowest corner of the lattice's first box.
 pub fn triangle_forms(t: Triangle, n: Point, step: i64, extent: i64) -> [i64; 35]
-    requires { TriangleWithin offsetMax t × (n ≡ normal t) × Within stepMax step × (pos 0 ≤ℤ step) × Within extentMax extent }
+    requires { TriangleWithin offset_max t × (n ≡ normal t) × Within step_max step × (pos 0 ≤ℤ step) × Within extent_max extent }
     ensures { FormsFor t step extent result }
 {
     let v0 = t.v0;
@@ -157,7 +157,7 @@ pub fn triangle_forms(t: Triangle, n: Point, step: i64, extent: i64) -> [i64; 35
 // The three numbers from a place of the list on, as an edge in the plane of two axes.
 fn form_from(forms: &[i64; 35], at: usize) -> EdgeForm
     requires { at < 33 }
-    ensures { result ≡ formFrom forms.now at }
+    ensures { result ≡ form_from forms.now at }
 {
     EdgeForm {
         a: forms[at],
@@ -200,7 +200,7 @@ pub fn inside(forms: &[i64; 35], m: usize) -> i64
 
 // The plane.
 pub fn plane(forms: &[i64; 35]) -> PlaneForm
-    ensures { result ≡ planeAt forms.now }
+    ensures { result ≡ plane_at forms.now }
 {
     PlaneForm {
         u: forms[30],

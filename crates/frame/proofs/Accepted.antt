@@ -18,45 +18,45 @@ use lib.ListN.{length}
 use lib.Signed.{◌<ℤ◌}
 use Rattle.integers.proofs.Omega.{lt-true}
 use Rattle.refusal.specs.Limit.{gives, refused}
-use Rattle.refusal.specs.Questions.{ofEach}
+use Rattle.refusal.specs.Questions.{of_each}
 use Rattle.refusal.specs.Inner.{passed, asked}
 use Rattle.refusal.proofs.Asking.{passed-head, and_then, both-passed, first-append, asked-first, refuses, passes, asked-refused, asked-given}
-use Rattle.grid.specs.Grid.{cellCount}
+use Rattle.grid.specs.Grid.{cell_count}
 use Rattle.grid.specs.Usable.{UsableGrid, BoundedGrid}
 use Rattle.grid.proofs.Usable.{usable-weaken}
 use Rattle.layout.specs.declared.Layout.{Layout}
 use Rattle.layout.specs.declared.Header.{Header}
-use Rattle.layout.specs.Layout.{version1, recordStart}
+use Rattle.layout.specs.Layout.{version1, record_start}
 use Rattle.layout.proofs.Bounds.{version1-usable, grid-within, count-lt}
-use Rattle.frame.specs.File.{headerOf}
+use Rattle.frame.specs.File.{header_of}
 use Rattle.frame.specs.Inner.{HasRecord, Followed}
-use Rattle.frame.specs.Questions.{headerQuestions, fileQuestions, kindQuestion, checked, contents, reading}
+use Rattle.frame.specs.Questions.{header_questions, file_questions, kind_question, checked, contents, reading}
 
 -- Questions 1 to 7, by the two parts of the check.
-pub file-questions : (s : List ℕ) → let h = headerOf s in
-    asked (fileQuestions s) ≡ and_then (asked (headerQuestions version1 h s)) (asked (ofEach (kindQuestion version1 s) h.count))
+pub file-questions : (s : List ℕ) → let h = header_of s in
+    asked (file_questions s) ≡ and_then (asked (header_questions version1 h s)) (asked (of_each (kind_question version1 s) h.count))
 file-questions s =
-    let h = headerOf s in
-    first-append tt (headerQuestions version1 h s) (ofEach (kindQuestion version1 s) h.count)
+    let h = header_of s in
+    first-append tt (header_questions version1 h s) (of_each (kind_question version1 s) h.count)
 
-pub checked-by : (s : List ℕ) → let h = headerOf s in
-    checked s ≡ and_then (and_then (asked (headerQuestions version1 h s)) (asked (ofEach (kindQuestion version1 s) h.count))) (gives h)
+pub checked-by : (s : List ℕ) → let h = header_of s in
+    checked s ≡ and_then (and_then (asked (header_questions version1 h s)) (asked (of_each (kind_question version1 s) h.count))) (gives h)
 unfolding checked
-checked-by s = asked-first (headerOf s) (fileQuestions s) ∙ rw (file-questions s)
+checked-by s = asked-first (header_of s) (file_questions s) ∙ rw (file-questions s)
 
 -- ---- what the check's answer says of questions 1 to 7, and of a plain reading
 module _ (s : List ℕ) where
-  pub questions-refused : {n p : ℕ} → checked s ≡ refused n p → asked (fileQuestions s) ≡ refused n p
+  pub questions-refused : {n p : ℕ} → checked s ≡ refused n p → asked (file_questions s) ≡ refused n p
   unfolding checked
-  questions-refused = asked-refused (headerOf s) (fileQuestions s)
+  questions-refused = asked-refused (header_of s) (file_questions s)
 
-  pub questions-passed : (h : Header) → checked s ≡ gives h → asked (fileQuestions s) ≡ passed
+  pub questions-passed : (h : Header) → checked s ≡ gives h → asked (file_questions s) ≡ passed
   unfolding checked
-  questions-passed h e = (asked-given (headerOf s) (fileQuestions s) e).0
+  questions-passed h e = (asked-given (header_of s) (file_questions s) e).0
 
-  pub header_is : (h : Header) → checked s ≡ gives h → headerOf s ≡ h
+  pub header_is : (h : Header) → checked s ≡ gives h → header_of s ≡ h
   unfolding checked
-  header_is h e = (asked-given (headerOf s) (fileQuestions s) e).1
+  header_is h e = (asked-given (header_of s) (file_questions s) e).1
 
   module _ (i : ℕ) where
     pub reading-refused : {n p : ℕ} → checked s ≡ refused n p → reading s i ≡ refused n p
@@ -71,9 +71,9 @@ module _ (s : List ℕ) where
 pub record HeaderPassed (l : Layout) (h : Header) (s : List ℕ) : Type 0 where
   pub version : h.version ≡ 1
   pub edge : pos 0 <ℤ h.grid.edge
-  pub whole : length s ≡ recordStart l h.count
+  pub whole : length s ≡ record_start l h.count
 
-pub header-passed : (l : Layout) (h : Header) (s : List ℕ) → asked (headerQuestions l h s) ≡ passed → HeaderPassed l h s
+pub header-passed : (l : Layout) (h : Header) (s : List ℕ) → asked (header_questions l h s) ≡ passed → HeaderPassed l h s
 header-passed l h s p =
     let q2 = passed-head tt _ _ (passed-head tt _ _ p).1 in
     let q3 = passed-head tt _ _ q2.1 in
@@ -82,7 +82,7 @@ header-passed l h s p =
 
 -- ---- what an accepted file is: the bounds of its grid, which come from the widths of its fields; an edge above 0; and its records are there
 pub record AcceptedFile (s : List ℕ) (h : Header) : Type 0 where
-  pub header : headerOf s ≡ h
+  pub header : header_of s ≡ h
   pub version : h.version ≡ 1
   pub grid : UsableGrid (2 ^ 13) (2 ^ 8) h.grid
   pub count : h.count < 4096
@@ -91,7 +91,7 @@ pub record AcceptedFile (s : List ℕ) (h : Header) : Type 0 where
 
 pub accepted : (s : List ℕ) (h : Header) → checked s ≡ gives h → AcceptedFile s h
 accepted s h e =
-    let p = header-passed version1 (headerOf s) s (both-passed _ _ (sym (file-questions s) ∙ questions-passed s h e)).0 in
+    let p = header-passed version1 (header_of s) s (both-passed _ _ (sym (file-questions s) ∙ questions-passed s h e)).0 in
     let n = count-lt version1 version1-usable s in
     rw (← header_is s h e)
     (record {
@@ -107,5 +107,5 @@ module _ {s : List ℕ} {h : Header} (a : AcceptedFile s h) where
   pub usable : BoundedGrid h.grid
   usable = usable-weaken (lit≤ tt) (lit≤ tt) a.grid
 
-  pub map-most : (cellCount h.grid + 7) / 8 ≤ 32768
+  pub map-most : (cell_count h.grid + 7) / 8 ≤ 32768
   map-most = let g = a.grid.within in omega (arith, mul-le-mul (mul-le-mul g.x.most g.y.most) g.z.most)

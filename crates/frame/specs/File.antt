@@ -3,12 +3,12 @@ use Rattle.std.specs.Prelude.{List, ℕ}
 use Rattle.layout.specs.declared.Header.{Header}
 use Rattle.layout.specs.declared.Record.{Record}
 use Rattle.layout.specs.Layout.{version1}
-use Rattle.layout.specs.Values.{headerIn, recordIn, fromRecord}
+use Rattle.layout.specs.Values.{header_in, record_in, from_record}
 
 -- The header's values.
-abbrev pub headerOf : List ℕ → Header
-headerOf s = headerIn version1 s
+abbrev pub header_of : List ℕ → Header
+header_of s = header_in version1 s
 
 -- The values of record i.
-abbrev pub recordOf : List ℕ → ℕ → Record
-recordOf s i = recordIn version1 (fromRecord version1 s i)
+abbrev pub record_of : List ℕ → ℕ → Record
+record_of s i = record_in version1 (from_record version1 s i)

@@ -1,16 +1,16 @@
 // The frame file: the questions put to it, and the reading of its header and its records.
 ghost use Rattle.std.specs.Prelude.{◌≡◌, ◌≤◌, ◌<◌, ◌^◌, length};
 ghost use Rattle.integers.specs.Within.{Within};
-ghost use Rattle.refusal.specs.Questions.{ofEach};
-ghost use Rattle.refusal.specs.Inner.{saidVerdict};
+ghost use Rattle.refusal.specs.Questions.{of_each};
+ghost use Rattle.refusal.specs.Inner.{said_verdict};
 ghost use Rattle.refusal.specs.Inner.{asked};
 ghost use Rattle.grid.specs.Usable.{GridWithin};
-ghost use Rattle.layout.specs.Layout.{recordStart};
-ghost use Rattle.layout.specs.Values.{reservedIn};
+ghost use Rattle.layout.specs.Layout.{record_start};
+ghost use Rattle.layout.specs.Values.{reserved_in};
 ghost use Rattle.layout.specs.Taken.{UsableLayout, BoundedHeader};
-ghost use Rattle.frame.specs.File.{recordOf};
+ghost use Rattle.frame.specs.File.{record_of};
 ghost use Rattle.frame.specs.Inner.{HasRecord, Followed};
-ghost use Rattle.frame.specs.Questions.{axisFits, extentFits, headerQuestions, kindQuestion, checked, reading, saidCheck, saidReading};
+ghost use Rattle.frame.specs.Questions.{axis_fits, extent_fits, header_questions, kind_question, checked, reading, said_check, said_reading};
 
 use grid::Grid;
 use layout::{Header, Layout, Record};
@@ -19,7 +19,7 @@ use refusal::{Limit, Verdict};
 // On one axis, is origin + cells × edge at most the farthest coordinate?
 fn axis_fits(farthest: i64, origin: i64, cells: usize, edge: i64) -> bool
     requires { Within (2 ^ 24) origin × (cells ≤ 64) × Within (2 ^ 25) edge }
-    ensures { result ≡ axisFits farthest origin cells edge }
+    ensures { result ≡ axis_fits farthest origin cells edge }
 {
     let length = cells as i64 * edge;
     let far = origin + length;
@@ -29,7 +29,7 @@ fn axis_fits(farthest: i64, origin: i64, cells: usize, edge: i64) -> bool
 // Does the grid end within the farthest coordinate on every axis? A writer asks it too.
 pub fn extent_fits(farthest: i64, g: Grid) -> bool
     requires { GridWithin (2 ^ 24) (2 ^ 25) g }
-    ensures { result ≡ extentFits farthest g }
+    ensures { result ≡ extent_fits farthest g }
 {
     let origin = g.origin;
     if !axis_fits(farthest, origin.x, g.nx, g.edge) {
@@ -43,8 +43,8 @@ pub fn extent_fits(farthest: i64, g: Grid) -> bool
 
 // Questions 1 to 6, put to a file whose header has been read.
 fn check_header(layout: Layout, file: &[u8], header: Header, reserved: u32) -> Verdict
-    requires { UsableLayout layout × BoundedHeader header × (reserved ≡ reservedIn layout file.now) }
-    ensures { saidVerdict result ≡ asked (headerQuestions layout header file.now) }
+    requires { UsableLayout layout × BoundedHeader header × (reserved ≡ reserved_in layout file.now) }
+    ensures { said_verdict result ≡ asked (header_questions layout header file.now) }
 {
     if file.len() < layout.header {
         return Verdict::Broken(Limit::ShortHeader);
@@ -70,8 +70,8 @@ fn check_header(layout: Layout, file: &[u8], header: Header, reserved: u32) -> V
 
 // Question 7, put to the first `count` records, which the file has.
 fn check_kinds(layout: Layout, file: &[u8], count: usize) -> Verdict
-    requires { UsableLayout layout × (count < 4096) × (recordStart layout count ≤ length file.now) }
-    ensures { saidVerdict result ≡ asked (ofEach (kindQuestion layout file.now) count) }
+    requires { UsableLayout layout × (count < 4096) × (record_start layout count ≤ length file.now) }
+    ensures { said_verdict result ≡ asked (of_each (kind_question layout file.now) count) }
 {
     let mut i = 0;
     while i < count {
@@ -93,7 +93,7 @@ pub enum Checked {
 
 // Puts questions 1 to 7 to a file.
 pub fn check(file: &[u8]) -> Checked
-    ensures { saidCheck result ≡ checked file.now }
+    ensures { said_check result ≡ checked file.now }
 {
     let layout = layout::version_1();
     let fields = layout::read_header(layout, file);
@@ -111,7 +111,7 @@ pub fn check(file: &[u8]) -> Checked
 // loop is the only caller, so that the compiler draws it in, and knows each field's place.
 pub fn record(file: &[u8], i: usize) -> Record
     requires { HasRecord file.now i }
-    ensures { result ≡ recordOf file.now i }
+    ensures { result ≡ record_of file.now i }
 {
     let layout = layout::version_1();
     let part = layout::from_record(layout, file, i);
@@ -124,7 +124,7 @@ pub fn record(file: &[u8], i: usize) -> Record
 // Record i of a file that has it, be it the last or not: for a caller that reads one.
 pub fn one_record(file: &[u8], i: usize) -> Record
     requires { HasRecord file.now i }
-    ensures { result ≡ recordOf file.now i }
+    ensures { result ≡ record_of file.now i }
 {
     let layout = layout::version_1();
     let own = layout::from_record(layout, file, i);
@@ -135,7 +135,7 @@ pub fn one_record(file: &[u8], i: usize) -> Record
 // search that leaves most records after some of their fields, so that the others are not taken.
 pub fn record_inside(file: &[u8], i: usize) -> Record
     requires { Followed file.now i }
-    ensures { result ≡ recordOf file.now i }
+    ensures { result ≡ record_of file.now i }
 {
     let layout = layout::version_1();
     let bytes = layout::from_record(layout, file, i);
@@ -152,7 +152,7 @@ pub enum Reading {
 
 // Reads a file's header and its record i.
 pub fn read(file: &[u8], i: usize) -> Reading
-    ensures { saidReading result ≡ reading file.now i }
+    ensures { said_reading result ≡ reading file.now i }
 {
     match check(file) {
         Checked::Refused(limit) => Reading::Refused(limit),

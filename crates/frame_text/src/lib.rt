@@ -2,16 +2,16 @@
 // behind it.
 ghost use Rattle.std.specs.Prelude.{◌+◌, ◌≤◌, length};
 ghost use Rattle.text.specs.Inner.{Puts};
-ghost use Rattle.numbers.specs.Numbers.{headerNumbers, recordNumbers};
+ghost use Rattle.numbers.specs.Numbers.{header_numbers, record_numbers};
 ghost use Rattle.numbers.specs.Inner.{Small};
-ghost use Rattle.frame_text.specs.Frame.{gridLine, kindText, recordLine};
+ghost use Rattle.frame_text.specs.Frame.{grid_line, kind_text, record_line};
 
 use layout::{Header, Record};
 
 // Puts the grid's values and the count of triangles at the start: the header's numbers but the version.
 pub fn put_grid(out: &mut [u8], header: Header) -> usize
-    requires { Small (headerNumbers header) × (128 ≤ length out.old) }
-    ensures { Puts out.old 0 (gridLine header) out.new result }
+    requires { Small (header_numbers header) × (128 ≤ length out.old) }
+    ensures { Puts out.old 0 (grid_line header) out.new result }
 {
     let numbers = numbers::header_numbers(header);
     let behind = text::put_numbers(out, 0, &numbers[1..]);
@@ -20,8 +20,8 @@ pub fn put_grid(out: &mut [u8], header: Header) -> usize
 
 // Puts a record: its ten numbers, and its kind in words.
 pub fn put_record(out: &mut [u8], at: usize, rec: Record) -> usize
-    requires { Small (recordNumbers rec) × (at + 136 ≤ length out.old) }
-    ensures { Puts out.old at (recordLine rec) out.new result × (result ≤ at + 136) }
+    requires { Small (record_numbers rec) × (at + 136 ≤ length out.old) }
+    ensures { Puts out.old at (record_line rec) out.new result × (result ≤ at + 136) }
 {
     let numbers = numbers::record_numbers(rec);
     let behind = text::put_numbers(out, at, &numbers);
@@ -31,7 +31,7 @@ pub fn put_record(out: &mut [u8], at: usize, rec: Record) -> usize
 // Puts a kind in words, as a comment.
 fn put_kind(out: &mut [u8], at: usize, kind: u32) -> usize
     requires { at + 16 ≤ length out.old }
-    ensures { Puts out.old at (kindText kind) out.new result × (result ≤ at + 16) }
+    ensures { Puts out.old at (kind_text kind) out.new result × (result ≤ at + 16) }
 {
     if kind == 0 {
         return text::put_word(out, at, b"# frame\n");

@@ -8,14 +8,14 @@ use lib.ListN.{replicate}
 use Rattle.bits.specs.Field.{bytes_of}
 use Rattle.refusal.specs.Limit.{gives, refused}
 use Rattle.refusal.specs.Questions.{answered}
-use Rattle.layout_write.specs.Writing.{headerBytes}
+use Rattle.layout_write.specs.Writing.{header_bytes}
 use Rattle.writable.specs.Fits.{all_below}
 use Rattle.frame_write.specs.declared.GridValues.{GridValues}
 use Rattle.frame_write.specs.declared.Written.TheVariants.{Length}
-use Rattle.frame_write.specs.Write.{gridFrom, concatBelow, writing, writtenBytes, saidWritten}
+use Rattle.frame_write.specs.Write.{grid_from, concat_below, writing, written_bytes, said_written}
 
 -- cells along x, y, z; cell edge; origin x, y, z
-pub in_order : gridFrom (pos 1 ∷ pos 2 ∷ pos 3 ∷ pos 4 ∷ pos 5 ∷ pos 6 ∷ pos 7 ∷ [])
+pub in_order : grid_from (pos 1 ∷ pos 2 ∷ pos 3 ∷ pos 4 ∷ pos 5 ∷ pos 6 ∷ pos 7 ∷ [])
     ≡ record { nx = pos 1; ny = pos 2; nz = pos 3; edge = pos 4; x = pos 5; y = pos 6; z = pos 7 }
 in_order = refl
 
@@ -49,13 +49,13 @@ unfolding answered all_below writing
 room = refl
 
 -- a file with no triangle into 13 bytes, and into 11
-pub behind : writtenBytes (grid (pos 10)) [] (replicate 13 0xaa) ≡ (0x10 ∷ 0x41 ∷ 0x04 ∷ 0x28 ∷ 0x00 ∷ 0x00 ∷ 0x00 ∷ 0x00 ∷ 0x00 ∷ 0x00 ∷ 0x00 ∷ 0x00 ∷ 0xaa ∷ [])
-unfolding answered all_below writing bytes_of headerBytes concatBelow writtenBytes
+pub behind : written_bytes (grid (pos 10)) [] (replicate 13 0xaa) ≡ (0x10 ∷ 0x41 ∷ 0x04 ∷ 0x28 ∷ 0x00 ∷ 0x00 ∷ 0x00 ∷ 0x00 ∷ 0x00 ∷ 0x00 ∷ 0x00 ∷ 0x00 ∷ 0xaa ∷ [])
+unfolding answered all_below writing bytes_of header_bytes concat_below written_bytes
 behind = refl
 
-pub kept : writtenBytes (grid (pos 10)) [] (replicate 11 0xaa) ≡ replicate 11 0xaa
-unfolding answered all_below writing writtenBytes
+pub kept : written_bytes (grid (pos 10)) [] (replicate 11 0xaa) ≡ replicate 11 0xaa
+unfolding answered all_below writing written_bytes
 kept = refl
 
-pub said : saidWritten (Length 28) ≡ gives 28
+pub said : said_written (Length 28) ≡ gives 28
 said = refl

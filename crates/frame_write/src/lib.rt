@@ -1,11 +1,11 @@
 // Writes frame files: from a grid's values and a list of triangles, ten numbers each.
 ghost use Rattle.std.specs.Prelude.{true, ◌++◌, ◌≡◌, ◌+◌, ◌*◌, ◌<◌, ◌≤◌, length, take, drop};
-ghost use Rattle.refusal.specs.Inner.{saidVerdict, passed, asked};
-ghost use Rattle.layout.specs.Layout.{version1, headerFields, recordFields, recordStart};
-ghost use Rattle.layout_write.specs.Writing.{canHoldAll, headerBytes, recordBytes};
+ghost use Rattle.refusal.specs.Inner.{said_verdict, passed, asked};
+ghost use Rattle.layout.specs.Layout.{version1, header_fields, record_fields, record_start};
+ghost use Rattle.layout_write.specs.Writing.{can_hold_all, header_bytes, record_bytes};
 ghost use Rattle.layout_write.specs.Put.{WritableLayout};
-ghost use Rattle.writable.specs.Fits.{triangleNumbers, all_below, triangleFits};
-ghost use Rattle.frame_write.specs.Write.{gridFrom, headerToWrite, triangleCount, writeQuestions, recordsBytes, fileBytes, writing, writtenBytes, saidWritten};
+ghost use Rattle.writable.specs.Fits.{triangle_numbers, all_below, triangle_fits};
+ghost use Rattle.frame_write.specs.Write.{grid_from, header_to_write, triangle_count, write_questions, records_bytes, file_bytes, writing, written_bytes, said_written};
 
 use layout::Layout;
 use refusal::{Limit, Verdict};
@@ -25,7 +25,7 @@ pub struct GridValues {
 // The grid's values that a list begins with, in the order of the header.
 pub fn grid_from(numbers: &[i32]) -> GridValues
     requires { 7 ≤ length numbers.now }
-    ensures { result ≡ gridFrom numbers.now }
+    ensures { result ≡ grid_from numbers.now }
 {
     GridValues {
         nx: numbers[0],
@@ -47,7 +47,7 @@ pub enum Written {
 
 // Writes the file of a grid and its triangles to the start of `out`.
 pub fn write(grid: GridValues, triangles: &[i32], out: &mut [u8]) -> Written
-    ensures { (saidWritten result ≡ writing grid triangles.now (length out.old)) × (out.new ≡ writtenBytes grid triangles.now out.old) }
+    ensures { (said_written result ≡ writing grid triangles.now (length out.old)) × (out.new ≡ written_bytes grid triangles.now out.old) }
 {
     let layout = layout::version_1();
     match check(layout, grid, triangles, out.len()) {
@@ -59,7 +59,7 @@ pub fn write(grid: GridValues, triangles: &[i32], out: &mut [u8]) -> Written
 // Puts the questions in turn: the values, then the room.
 fn check(layout: Layout, grid: GridValues, triangles: &[i32], room: usize) -> Verdict
     requires { WritableLayout layout }
-    ensures { saidVerdict result ≡ asked (writeQuestions layout grid triangles.now room) }
+    ensures { said_verdict result ≡ asked (write_questions layout grid triangles.now room) }
 {
     let count = triangles.len() / 10;
     if 4095 < count {
@@ -83,7 +83,7 @@ fn check(layout: Layout, grid: GridValues, triangles: &[i32], room: usize) -> Ve
 // The numbers of the header that is written.
 pub fn header_numbers(grid: GridValues, count: usize) -> [i32; 10]
     requires { count < 4096 }
-    ensures { result ≡ headerToWrite grid count }
+    ensures { result ≡ header_to_write grid count }
 {
     [
         1,
@@ -101,8 +101,8 @@ pub fn header_numbers(grid: GridValues, count: usize) -> [i32; 10]
 
 // Writes a file that passed all questions, and answers its length.
 fn put_file(grid: GridValues, triangles: &[i32], out: &mut [u8]) -> usize
-    requires { asked (writeQuestions version1 grid triangles.now (length out.old)) ≡ passed }
-    ensures { (result ≡ recordStart version1 (triangleCount triangles.now)) × (out.new ≡ fileBytes version1 grid triangles.now ++ drop (recordStart version1 (triangleCount triangles.now)) out.old) }
+    requires { asked (write_questions version1 grid triangles.now (length out.old)) ≡ passed }
+    ensures { (result ≡ record_start version1 (triangle_count triangles.now)) × (out.new ≡ file_bytes version1 grid triangles.now ++ drop (record_start version1 (triangle_count triangles.now)) out.old) }
 {
     let records = triangles.len() / 10;
     put_head(grid, records, out);
@@ -112,8 +112,8 @@ fn put_file(grid: GridValues, triangles: &[i32], out: &mut [u8]) -> usize
 
 // Writes the header of a file of `count` triangles to the start of `out`.
 pub fn put_head(grid: GridValues, count: usize, out: &mut [u8])
-    requires { (count < 4096) × (canHoldAll (headerFields version1) (headerToWrite grid count) ≡ true) × (12 ≤ length out.old) }
-    ensures { out.new ≡ headerBytes version1 (headerToWrite grid count) ++ drop 12 out.old }
+    requires { (count < 4096) × (can_hold_all (header_fields version1) (header_to_write grid count) ≡ true) × (12 ≤ length out.old) }
+    ensures { out.new ≡ header_bytes version1 (header_to_write grid count) ++ drop 12 out.old }
 {
     let layout = layout::version_1();
     layout_write::put_header(layout, &mut out[..12], &header_numbers(grid, count));
@@ -121,8 +121,8 @@ pub fn put_head(grid: GridValues, count: usize, out: &mut [u8])
 
 // Writes the records behind the header's place.
 fn put_records(triangles: &[i32], count: usize, out: &mut [u8])
-    requires { (count < 4096) × (length triangles.now ≡ count * 10) × (recordStart version1 count ≤ length out.old) × (all_below (λ i. triangleFits version1 (triangleNumbers triangles.now i)) count ≡ true) }
-    ensures { out.new ≡ take 12 out.old ++ (recordsBytes version1 triangles.now count ++ drop (recordStart version1 count) out.old) }
+    requires { (count < 4096) × (length triangles.now ≡ count * 10) × (record_start version1 count ≤ length out.old) × (all_below (λ i. triangle_fits version1 (triangle_numbers triangles.now i)) count ≡ true) }
+    ensures { out.new ≡ take 12 out.old ++ (records_bytes version1 triangles.now count ++ drop (record_start version1 count) out.old) }
 {
     let mut i = 0;
     while i < count {
@@ -135,8 +135,8 @@ fn put_records(triangles: &[i32], count: usize, out: &mut [u8])
 // Writes record i from its ten numbers, at its place. The layout is known here, so that the compiler knows the place of each field,
 // whoever calls.
 pub fn put_at(out: &mut [u8], i: usize, numbers: &[i32])
-    requires { (i < 4096) × (canHoldAll (recordFields version1) numbers.now ≡ true) × (recordStart version1 i + 16 ≤ length out.old) }
-    ensures { out.new ≡ take (recordStart version1 i) out.old ++ (recordBytes version1 numbers.now ++ drop 16 (drop (recordStart version1 i) out.old)) }
+    requires { (i < 4096) × (can_hold_all (record_fields version1) numbers.now ≡ true) × (record_start version1 i + 16 ≤ length out.old) }
+    ensures { out.new ≡ take (record_start version1 i) out.old ++ (record_bytes version1 numbers.now ++ drop 16 (drop (record_start version1 i) out.old)) }
 {
     let layout = layout::version_1();
     let start = layout::record_start(layout, i);

@@ -4,7 +4,7 @@ use mathlib.Core.List.{[], ◌∷◌}
 use mathlib.Core.Path.{◌≡◌, refl}
 use lib.IntN.{pos, neg_ℤ}
 use Rattle.geometry.specs.declared.Point.{Point}
-use Rattle.geometry.specs.Geometry.{point, minus, dot, cross, triangle, leg, xOf, yOf, z_of, cube}
+use Rattle.geometry.specs.Geometry.{point, minus, dot, cross, triangle, leg, x_of, y_of, z_of, cube}
 
 abbrev a : Point
 a = record { x = pos 1; y = pos 2; z = pos 3 }
@@ -15,7 +15,7 @@ b = record { x = pos 5; y = pos 7; z = pos 11 }
 pub in-turn : point (pos 1) (pos 2) (pos 3) ≡ a
 in-turn = refl
 
-pub on-axes : (xOf b ∷ yOf b ∷ z_of b ∷ []) ≡ (pos 5 ∷ pos 7 ∷ pos 11 ∷ [])
+pub on-axes : (x_of b ∷ y_of b ∷ z_of b ∷ []) ≡ (pos 5 ∷ pos 7 ∷ pos 11 ∷ [])
 on-axes = refl
 
 pub differs : minus b a ≡ record { x = pos 4; y = pos 5; z = pos 8 }

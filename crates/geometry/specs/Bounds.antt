@@ -5,26 +5,26 @@ use Rattle.geometry.specs.declared.Point.{Point}
 use Rattle.geometry.specs.declared.Triangle.{Triangle}
 
 -- A coordinate, one measured from a grid's origin, the difference of two such, a component of a normal, how far apart the boxes of neighbours begin, how large a box is, and a cell's number on an axis.
-abbrev pub coordinateMax : ℕ
-coordinateMax = 2 ^ 18
+abbrev pub coordinate_max : ℕ
+coordinate_max = 2 ^ 18
 
-abbrev pub offsetMax : ℕ
-offsetMax = 2 ^ 19
+abbrev pub offset_max : ℕ
+offset_max = 2 ^ 19
 
-abbrev pub differenceMax : ℕ
-differenceMax = 2 ^ 20
+abbrev pub difference_max : ℕ
+difference_max = 2 ^ 20
 
-abbrev pub normalMax : ℕ
-normalMax = 2 ^ 41
+abbrev pub normal_max : ℕ
+normal_max = 2 ^ 41
 
-abbrev pub stepMax : ℕ
-stepMax = 2 ^ 13
+abbrev pub step_max : ℕ
+step_max = 2 ^ 13
 
-abbrev pub extentMax : ℕ
-extentMax = 2 ^ 14
+abbrev pub extent_max : ℕ
+extent_max = 2 ^ 14
 
-abbrev pub indexMax : ℕ
-indexMax = 64
+abbrev pub index_max : ℕ
+index_max = 64
 
 -- Several numbers with one bound, and further numbers.
 abbrev pub each : ℕ → ℕ → List ℕ → List ℕ
@@ -43,7 +43,7 @@ pub record TriangleWithin (B : ℕ) (t : Triangle) : Type 0 where
   pub v2 : PointWithin B t.v2
 
 abbrev pub BoundedPoint : Point → Type 0
-BoundedPoint = PointWithin coordinateMax
+BoundedPoint = PointWithin coordinate_max
 
 abbrev pub BoundedTriangle : Triangle → Type 0
-BoundedTriangle = TriangleWithin coordinateMax
+BoundedTriangle = TriangleWithin coordinate_max

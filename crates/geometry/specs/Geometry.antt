@@ -29,11 +29,11 @@ leg a b = triangle a b b
 abbrev pub Axis : Type 0
 Axis = Point → ℤ
 
-abbrev pub xOf : Axis
-xOf q = q.x
+abbrev pub x_of : Axis
+x_of q = q.x
 
-abbrev pub yOf : Axis
-yOf q = q.y
+abbrev pub y_of : Axis
+y_of q = q.y
 
 abbrev pub z_of : Axis
 z_of q = q.z

@@ -4,5 +4,5 @@ use Rattle.geometry.specs.declared.Triangle.{Triangle}
 use Rattle.geometry.specs.Geometry.{minus, triangle}
 
 -- A triangle with its corners measured from the point o.
-abbrev pub measuredFrom : Point → Triangle → Triangle
-measuredFrom o t = triangle (minus t.v0 o) (minus t.v1 o) (minus t.v2 o)
+abbrev pub measured_from : Point → Triangle → Triangle
+measured_from o t = triangle (minus t.v0 o) (minus t.v1 o) (minus t.v2 o)

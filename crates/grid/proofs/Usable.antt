@@ -7,7 +7,7 @@ use lib.Dec.{lit≤}
 use Rattle.integers.proofs.Bounds.{within-weaken}
 use Rattle.integers.proofs.Laws.{<→≤}
 use Rattle.grid.specs.declared.Grid.{Grid}
-use Rattle.grid.specs.Grid.{latticeOf}
+use Rattle.grid.specs.Grid.{lattice_of}
 use Rattle.grid.specs.Usable.{GridWithin, UsableGrid, BoundedGrid, UsableLattice}
 
 module _ {C E D F : ℕ} {g : Grid} (c : C ≤ D) (e : E ≤ F) where
@@ -25,7 +25,7 @@ module _ {C E D F : ℕ} {g : Grid} (c : C ≤ D) (e : E ≤ F) where
   pub usable-weaken : UsableGrid C E g → UsableGrid D F g
   usable-weaken u = record { within = grid-weaken u.within; positive = u.positive }
 
-pub usable-boxes : {g : Grid} → BoundedGrid g → UsableLattice (latticeOf g)
+pub usable-boxes : {g : Grid} → BoundedGrid g → UsableLattice (lattice_of g)
 usable-boxes u = record {
   first = u.within.origin;
   positive = u.positive;

@@ -1,7 +1,7 @@
 -- Grids and lattices whose numbers can be computed with. Definitions only.
 use Rattle.std.specs.Prelude.{ℕ, ◌<◌, ◌≤◌, pos, ◌≤ℤ◌, ◌<ℤ◌}
 use Rattle.integers.specs.Within.{Within}
-use Rattle.geometry.specs.Bounds.{coordinateMax, stepMax, extentMax, PointWithin, BoundedPoint}
+use Rattle.geometry.specs.Bounds.{coordinate_max, step_max, extent_max, PointWithin, BoundedPoint}
 use Rattle.grid.specs.declared.Grid.{Grid}
 use Rattle.grid.specs.declared.Lattice.{Lattice}
 
@@ -24,12 +24,12 @@ pub record UsableGrid (C E : ℕ) (g : Grid) : Type 0 where
   pub positive : pos 0 <ℤ g.edge
 
 abbrev pub BoundedGrid : Grid → Type 0
-BoundedGrid = UsableGrid coordinateMax stepMax
+BoundedGrid = UsableGrid coordinate_max step_max
 
 -- A usable lattice: its numbers are small, its boxes do not begin at one place, and no box is smaller than a point.
 pub record UsableLattice (l : Lattice) : Type 0 where
   pub first : BoundedPoint l.first
   pub positive : pos 0 <ℤ l.step
-  pub step : Within stepMax l.step
-  pub extent : Within extentMax l.extent
+  pub step : Within step_max l.step
+  pub extent : Within extent_max l.extent
   pub thick : pos 0 ≤ℤ l.extent

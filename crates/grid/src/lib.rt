@@ -1,9 +1,9 @@
 // A grid of cubic cells: the boxes of its cells, ranges of cells, a cell's number, and the points inside.
 ghost use Rattle.std.specs.Prelude.{◌≡◌, ◌≤◌, ◌<◌, pos, ◌+ℤ◌, ◌*ℤ◌};
 ghost use Rattle.integers.specs.Within.{Within};
-ghost use Rattle.geometry.specs.Bounds.{coordinateMax, stepMax};
-ghost use Rattle.grid.specs.Grid.{cellCount, latticeOf, insideOn, inside};
-ghost use Rattle.grid.specs.Cells.{cellNumber};
+ghost use Rattle.geometry.specs.Bounds.{coordinate_max, step_max};
+ghost use Rattle.grid.specs.Grid.{cell_count, lattice_of, inside_on, inside};
+ghost use Rattle.grid.specs.Cells.{cell_number};
 ghost use Rattle.grid.specs.Usable.{GridWithin};
 
 use geometry::Point;
@@ -43,7 +43,7 @@ pub struct BoxRange {
 
 // The boxes that are the cells themselves.
 pub fn lattice_of(g: Grid) -> Lattice
-    ensures { result ≡ latticeOf g }
+    ensures { result ≡ lattice_of g }
 {
     let first = g.origin;
     Lattice {
@@ -56,7 +56,7 @@ pub fn lattice_of(g: Grid) -> Lattice
 // How many cells there are.
 pub fn cell_count(g: Grid) -> usize
     requires { (g.nx ≤ 64) × (g.ny ≤ 64) × (g.nz ≤ 64) }
-    ensures { (result ≡ cellCount g) × (result ≤ 262144) }
+    ensures { (result ≡ cell_count g) × (result ≤ 262144) }
 {
     let layer = g.nx * g.ny;
     layer * g.nz
@@ -65,7 +65,7 @@ pub fn cell_count(g: Grid) -> usize
 // The number of cell (i, j, k) in a grid with nx × ny cells in a layer.
 pub fn cell_number(nx: usize, ny: usize, i: usize, j: usize, k: usize) -> usize
     requires { (nx ≤ 64) × (ny ≤ 64) × (i < 64) × (j < 64) × (k < 64) }
-    ensures { result ≡ cellNumber nx ny i j k }
+    ensures { result ≡ cell_number nx ny i j k }
 {
     let row = j + ny * k;
     i + nx * row
@@ -73,7 +73,7 @@ pub fn cell_number(nx: usize, ny: usize, i: usize, j: usize, k: usize) -> usize
 
 // Is the point in the grid's closed box?
 pub fn is_inside(g: Grid, p: Point) -> bool
-    requires { GridWithin coordinateMax stepMax g }
+    requires { GridWithin coordinate_max step_max g }
     ensures { result ≡ inside g p }
 {
     let origin = g.origin;
@@ -88,8 +88,8 @@ pub fn is_inside(g: Grid, p: Point) -> bool
 
 // On an axis, is the coordinate from the grid's origin to its far end, both included?
 fn inside_on(origin: i64, cells: usize, edge: i64, at: i64) -> bool
-    requires { Within coordinateMax origin × (cells ≤ 64) × Within stepMax edge }
-    ensures { result ≡ insideOn origin (pos cells *ℤ edge) at }
+    requires { Within coordinate_max origin × (cells ≤ 64) × Within step_max edge }
+    ensures { result ≡ inside_on origin (pos cells *ℤ edge) at }
 {
     if at < origin {
         return false;
@@ -100,7 +100,7 @@ fn inside_on(origin: i64, cells: usize, edge: i64, at: i64) -> bool
 
 // On an axis, where cell i begins: origin + i × edge.
 pub fn along(origin: i64, i: usize, edge: i64) -> i64
-    requires { Within coordinateMax origin × (i ≤ 64) × Within stepMax edge }
+    requires { Within coordinate_max origin × (i ≤ 64) × Within step_max edge }
     ensures { result ≡ origin +ℤ pos i *ℤ edge }
 {
     let offset = integers::from_index(i) * edge;

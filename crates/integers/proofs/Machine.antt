@@ -32,8 +32,8 @@ pub back : (w : Width) {z : ℤ} → mag z < 2 ^ hbits w → to_z w (of_z w z) �
 back w h = to_z-of_z (record { sfits = h })
 
 -- the bits of a natural number that is small enough, as after a cast
-pub within-toZ : (w : Width) {B n : ℕ} → B < 2 ^ hbits w → n ≤ B → Within B (to_z w n)
-within-toZ w l h = rw (to_z_pos w (lt_of_le_of_lt h l)) (record { within = h })
+pub within-to_z : (w : Width) {B n : ℕ} → B < 2 ^ hbits w → n ≤ B → Within B (to_z w n)
+within-to_z w l h = rw (to_z_pos w (lt_of_le_of_lt h l)) (record { within = h })
 
 -- the two ways into a place where branches meet: `cases c.if1.came (λ w. ..) (λ w. ..)`. The sum stands first, so that the arms know the type of w
 pub cases : {A B C : Type 0} → A ⊎ B → (A → C) → (B → C) → C

@@ -66,17 +66,17 @@ pub <! : (x y : ℤ) → x <ℤ y → below y + above x < above y + below x
 pub ≡! : (x y : ℤ) → x ≡ y → below y + above x ≡ above y + below x
 ≡! x y h = omega (arith, ap above h, ap below h)
 
-pub leZ! : (x y : ℤ) → le_z x y ≡ true → below y + above x ≤ above y + below x
-leZ! x y e = le→nat x y (passes (le_z x y) e)
+pub le_z! : (x y : ℤ) → le_z x y ≡ true → below y + above x ≤ above y + below x
+le_z! x y e = le→nat x y (passes (le_z x y) e)
 
-pub ltZ! : (x y : ℤ) → lt_z x y ≡ true → below y + above x < above y + below x
-ltZ! x y e = lt→nat x y (passes (lt_z x y) e)
+pub lt_z! : (x y : ℤ) → lt_z x y ≡ true → below y + above x < above y + below x
+lt_z! x y e = lt→nat x y (passes (lt_z x y) e)
 
-pub ¬leZ! : (x y : ℤ) → le_z x y ≡ false → above y + below x < below y + above x
-¬leZ! x y e = lt_of_not-le (λ h. fails (le_z x y) e (nat→le x y h))
+pub ¬le_z! : (x y : ℤ) → le_z x y ≡ false → above y + below x < below y + above x
+¬le_z! x y e = lt_of_not-le (λ h. fails (le_z x y) e (nat→le x y h))
 
-pub ¬ltZ! : (x y : ℤ) → lt_z x y ≡ false → above y + below x ≤ below y + above x
-¬ltZ! x y e = le_of_suc-le-suc (lt_of_not-le (λ h. fails (lt_z x y) e (nat→lt x y h)))
+pub ¬lt_z! : (x y : ℤ) → lt_z x y ≡ false → above y + below x ≤ below y + above x
+¬lt_z! x y e = le_of_suc-le-suc (lt_of_not-le (λ h. fails (lt_z x y) e (nat→lt x y h)))
 
 -- ---- rules that prove a goal
 pub !≤ : (x y : ℤ) → below y + above x ≤ above y + below x → x ≤ℤ y
@@ -91,19 +91,19 @@ pub !≡ : (x y : ℤ) → below y + above x ≡ above y + below x → x ≡ y
 !≡ (negsuc a) (pos b) h = absurd (omega arith)
 !≡ (negsuc a) (negsuc b) h = ap negsuc (omega arith)
 
-pub !leZ : (x y : ℤ) → below y + above x ≤ above y + below x → le_z x y ≡ true
-!leZ x y h = is_true (le_z x y) (nat→le x y h)
+pub !le_z : (x y : ℤ) → below y + above x ≤ above y + below x → le_z x y ≡ true
+!le_z x y h = is_true (le_z x y) (nat→le x y h)
 
-pub !ltZ : (x y : ℤ) → below y + above x < above y + below x → lt_z x y ≡ true
-!ltZ x y h = is_true (lt_z x y) (nat→lt x y h)
+pub !lt_z : (x y : ℤ) → below y + above x < above y + below x → lt_z x y ≡ true
+!lt_z x y h = is_true (lt_z x y) (nat→lt x y h)
 
-pub !¬leZ : (x y : ℤ) → above y + below x < below y + above x → le_z x y ≡ false
-!¬leZ x y h = is_false (le_z x y) (λ t. omega (arith, le→nat x y t))
+pub !¬le_z : (x y : ℤ) → above y + below x < below y + above x → le_z x y ≡ false
+!¬le_z x y h = is_false (le_z x y) (λ t. omega (arith, le→nat x y t))
 
-pub !¬ltZ : (x y : ℤ) → above y + below x ≤ below y + above x → lt_z x y ≡ false
-!¬ltZ x y h = is_false (lt_z x y) (λ t. omega (arith, lt→nat x y t))
+pub !¬lt_z : (x y : ℤ) → above y + below x ≤ below y + above x → lt_z x y ≡ false
+!¬lt_z x y h = is_false (lt_z x y) (λ t. omega (arith, lt→nat x y t))
 
-pub ruleset zarith = (arith, ≤!, <!, ≡!, leZ!, ltZ!, ¬leZ!, ¬ltZ!, !≤, !<, !≡, !leZ, !ltZ, !¬leZ, !¬ltZ)
+pub ruleset zarith = (arith, ≤!, <!, ≡!, le_z!, lt_z!, ¬le_z!, ¬lt_z!, !≤, !<, !≡, !le_z, !lt_z, !¬le_z, !¬lt_z)
 
 -- ---- what an operation is made of
 cond_ind : (t : Bool) (x y : ℤ) (P : ℤ → Type 0) → (T t → P x) → (T (not t) → P y) → P (cond t x y)

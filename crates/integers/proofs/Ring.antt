@@ -35,42 +35,42 @@ tidy i (const (pos (suc n))) q = horner i (const (pos (suc n))) q
 tidy i (const (negsuc n)) q = horner i (const (negsuc n)) q
 tidy i (horner j a b) q = horner i (horner j a b) q
 
-abbrev pub addConst : ℤ → Poly → Poly
-addConst c (const d) = const (c +ℤ d)
-addConst c (horner i p q) = horner i p (addConst c q)
+abbrev pub add_const : ℤ → Poly → Poly
+add_const c (const d) = const (c +ℤ d)
+add_const c (horner i p q) = horner i p (add_const c q)
 
 -- the sum of `horner i p q` and s, where fp adds p and fq adds q
-abbrev pub addHorner : ℕ → Poly → Poly → (Poly → Poly) → (Poly → Poly) → Poly → Poly
-addHorner i p q fp fq (const c) = horner i p (fq (const c))
-addHorner i p q fp fq (horner j r s) = pick (compare i j)
+abbrev pub add_horner : ℕ → Poly → Poly → (Poly → Poly) → (Poly → Poly) → Poly → Poly
+add_horner i p q fp fq (const c) = horner i p (fq (const c))
+add_horner i p q fp fq (horner j r s) = pick (compare i j)
     (λ u. horner i p (fq (horner j r s)))
     (λ u. tidy i (fp r) (fq s))
-    (λ u. horner j r (addHorner i p q fp fq s))
+    (λ u. horner j r (add_horner i p q fp fq s))
 
 abbrev pub add : Poly → Poly → Poly
-add (const c) s = addConst c s
-add (horner i p q) s = addHorner i p q (λ t. add p t) (λ t. add q t) s
+add (const c) s = add_const c s
+add (horner i p q) s = add_horner i p q (λ t. add p t) (λ t. add q t) s
 
 -- every coefficient times c, which is not 0; and times any c
 abbrev pub scale : ℤ → Poly → Poly
 scale c (const d) = const (c *ℤ d)
 scale c (horner i p q) = horner i (scale c p) (scale c q)
 
-abbrev pub mulConst : ℤ → Poly → Poly
-mulConst (pos zero) s = const (pos zero)
-mulConst (pos (suc n)) s = scale (pos (suc n)) s
-mulConst (negsuc n) s = scale (negsuc n) s
+abbrev pub mul_const : ℤ → Poly → Poly
+mul_const (pos zero) s = const (pos zero)
+mul_const (pos (suc n)) s = scale (pos (suc n)) s
+mul_const (negsuc n) s = scale (negsuc n) s
 
-abbrev pub mulVar : ℕ → Poly → Poly
-mulVar i (const c) = tidy i (const c) (const (pos zero))
-mulVar i (horner j p q) = pick (compare i j)
+abbrev pub mul_var : ℕ → Poly → Poly
+mul_var i (const c) = tidy i (const c) (const (pos zero))
+mul_var i (horner j p q) = pick (compare i j)
     (λ u. horner i (horner j p q) (const (pos zero)))
     (λ u. horner i (horner j p q) (const (pos zero)))
-    (λ u. horner j (mulVar i p) (mulVar i q))
+    (λ u. horner j (mul_var i p) (mul_var i q))
 
 abbrev pub mul : Poly → Poly → Poly
-mul (const c) s = mulConst c s
-mul (horner i p q) s = add (mulVar i (mul p s)) (mul q s)
+mul (const c) s = mul_const c s
+mul (horner i p q) s = add (mul_var i (mul p s)) (mul q s)
 
 abbrev pub minus : Poly → Poly
 minus p = scale (negsuc zero) p
@@ -101,9 +101,9 @@ module _ (ρ : List ℤ) where
   ev-tidy i (const (negsuc n)) q = refl
   ev-tidy i (horner j a b) q = refl
 
-  ev-addConst : (c : ℤ) (s : Poly) → ev ρ (addConst c s) ≡ c +ℤ ev ρ s
-  ev-addConst c (const d) = refl
-  ev-addConst c (horner i p q) = ap (λ x. nth ρ i *ℤ ev ρ p +ℤ x) (ev-addConst c q) ∙ +-left-comm (nth ρ i *ℤ ev ρ p) c (ev ρ q)
+  ev-add_const : (c : ℤ) (s : Poly) → ev ρ (add_const c s) ≡ c +ℤ ev ρ s
+  ev-add_const c (const d) = refl
+  ev-add_const c (horner i p q) = ap (λ x. nth ρ i *ℤ ev ρ p +ℤ x) (ev-add_const c q) ∙ +-left-comm (nth ρ i *ℤ ev ρ p) c (ev ρ q)
 
   abbrev Adds : Poly → (Poly → Poly) → Type 0
   Adds p f = (t : Poly) → ev ρ (f t) ≡ ev ρ p +ℤ ev ρ t
@@ -119,18 +119,18 @@ module _ (ρ : List ℤ) where
         ∙ swap4 (nth ρ i *ℤ ev ρ p) (nth ρ i *ℤ ev ρ r) (ev ρ q) (ev ρ s)
         ∙ ap (λ k. ev ρ (horner i p q) +ℤ (nth ρ k *ℤ ev ρ r +ℤ ev ρ s)) e
 
-    ev-addHorner : (s : Poly) → ev ρ (addHorner i p q fp fq s) ≡ ev ρ (horner i p q) +ℤ ev ρ s
-    ev-addHorner (const c) = ev-tail (const c)
-    ev-addHorner (horner j r s) =
-        ev-pick (compare i j) (λ u. horner i p (fq (horner j r s))) (λ u. tidy i (fp r) (fq s)) (λ u. horner j r (addHorner i p q fp fq s))
+    ev-add_horner : (s : Poly) → ev ρ (add_horner i p q fp fq s) ≡ ev ρ (horner i p q) +ℤ ev ρ s
+    ev-add_horner (const c) = ev-tail (const c)
+    ev-add_horner (horner j r s) =
+        ev-pick (compare i j) (λ u. horner i p (fq (horner j r s))) (λ u. tidy i (fp r) (fq s)) (λ u. horner j r (add_horner i p q fp fq s))
         (ev ρ (horner i p q) +ℤ ev ρ (horner j r s))
         (ev-tail (horner j r s))
         (λ t. ev-both j r s (eqb→eq i j t))
-        (ap (λ x. nth ρ j *ℤ ev ρ r +ℤ x) (ev-addHorner s) ∙ +-left-comm (nth ρ j *ℤ ev ρ r) (ev ρ (horner i p q)) (ev ρ s))
+        (ap (λ x. nth ρ j *ℤ ev ρ r +ℤ x) (ev-add_horner s) ∙ +-left-comm (nth ρ j *ℤ ev ρ r) (ev ρ (horner i p q)) (ev ρ s))
 
   ev-add : (p s : Poly) → ev ρ (add p s) ≡ ev ρ p +ℤ ev ρ s
-  ev-add (const c) s = ev-addConst c s
-  ev-add (horner i p q) s = ev-addHorner i p q (λ t. add p t) (λ t. add q t) (λ t. ev-add p t) (λ t. ev-add q t) s
+  ev-add (const c) s = ev-add_const c s
+  ev-add (horner i p q) s = ev-add_horner i p q (λ t. add p t) (λ t. add q t) (λ t. ev-add p t) (λ t. ev-add q t) s
 
   ev-scale : (c : ℤ) (s : Poly) → ev ρ (scale c s) ≡ c *ℤ ev ρ s
   ev-scale c (const d) = refl
@@ -138,29 +138,29 @@ module _ (ρ : List ℤ) where
       ap₂ ◌+ℤ◌ (ap (λ x. nth ρ i *ℤ x) (ev-scale c p) ∙ *-left-comm (nth ρ i) c (ev ρ p)) (ev-scale c q)
       ∙ sym (*-distrib-l c (nth ρ i *ℤ ev ρ p) (ev ρ q))
 
-  ev-mulConst : (c : ℤ) (s : Poly) → ev ρ (mulConst c s) ≡ c *ℤ ev ρ s
-  ev-mulConst (pos zero) s = sym (zero-*ℤ (ev ρ s))
-  ev-mulConst (pos (suc n)) s = ev-scale (pos (suc n)) s
-  ev-mulConst (negsuc n) s = ev-scale (negsuc n) s
+  ev-mul_const : (c : ℤ) (s : Poly) → ev ρ (mul_const c s) ≡ c *ℤ ev ρ s
+  ev-mul_const (pos zero) s = sym (zero-*ℤ (ev ρ s))
+  ev-mul_const (pos (suc n)) s = ev-scale (pos (suc n)) s
+  ev-mul_const (negsuc n) s = ev-scale (negsuc n) s
 
   ev-front : (i : ℕ) (r : Poly) → ev ρ (horner i r (const (pos zero))) ≡ nth ρ i *ℤ ev ρ r
   ev-front i r = +ℤ_idr (nth ρ i *ℤ ev ρ r)
 
-  ev-mulVar : (i : ℕ) (s : Poly) → ev ρ (mulVar i s) ≡ nth ρ i *ℤ ev ρ s
-  ev-mulVar i (const c) = ev-tidy i (const c) (const (pos zero)) ∙ +ℤ_idr (nth ρ i *ℤ c)
-  ev-mulVar i (horner j p q) =
+  ev-mul_var : (i : ℕ) (s : Poly) → ev ρ (mul_var i s) ≡ nth ρ i *ℤ ev ρ s
+  ev-mul_var i (const c) = ev-tidy i (const c) (const (pos zero)) ∙ +ℤ_idr (nth ρ i *ℤ c)
+  ev-mul_var i (horner j p q) =
       let here : Unit {0} → Poly = λ u. horner i (horner j p q) (const (pos zero)) in
-      ev-pick (compare i j) here here (λ u. horner j (mulVar i p) (mulVar i q)) (nth ρ i *ℤ ev ρ (horner j p q))
+      ev-pick (compare i j) here here (λ u. horner j (mul_var i p) (mul_var i q)) (nth ρ i *ℤ ev ρ (horner j p q))
       (ev-front i (horner j p q))
       (λ t. ev-front i (horner j p q))
-      (ap₂ ◌+ℤ◌ (ap (λ x. nth ρ j *ℤ x) (ev-mulVar i p) ∙ *-left-comm (nth ρ j) (nth ρ i) (ev ρ p)) (ev-mulVar i q)
+      (ap₂ ◌+ℤ◌ (ap (λ x. nth ρ j *ℤ x) (ev-mul_var i p) ∙ *-left-comm (nth ρ j) (nth ρ i) (ev ρ p)) (ev-mul_var i q)
       ∙ sym (*-distrib-l (nth ρ i) (nth ρ j *ℤ ev ρ p) (ev ρ q)))
 
   ev-mul : (p s : Poly) → ev ρ (mul p s) ≡ ev ρ p *ℤ ev ρ s
-  ev-mul (const c) s = ev-mulConst c s
+  ev-mul (const c) s = ev-mul_const c s
   ev-mul (horner i p q) s =
-      ev-add (mulVar i (mul p s)) (mul q s)
-      ∙ ap₂ ◌+ℤ◌ (ev-mulVar i (mul p s) ∙ ap (λ x. nth ρ i *ℤ x) (ev-mul p s) ∙ sym (*-assoc (nth ρ i) (ev ρ p) (ev ρ s))) (ev-mul q s)
+      ev-add (mul_var i (mul p s)) (mul q s)
+      ∙ ap₂ ◌+ℤ◌ (ev-mul_var i (mul p s) ∙ ap (λ x. nth ρ i *ℤ x) (ev-mul p s) ∙ sym (*-assoc (nth ρ i) (ev ρ p) (ev ρ s))) (ev-mul q s)
       ∙ sym (*-distrib-r (nth ρ i *ℤ ev ρ p) (ev ρ q) (ev ρ s))
 
   ev-minus : (p : Poly) → ev ρ (minus p) ≡ neg_ℤ (ev ρ p)

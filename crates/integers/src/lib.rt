@@ -1,19 +1,19 @@
 // Leaf functions for signed code: each does one thing that a caller would otherwise prove again.
 ghost use Rattle.std.specs.Prelude.{◌≡◌, ◌^◌, ◌<◌, pos, nat_abs, length, get_or, ◌≤ℤ◌, ◌<ℤ◌};
 ghost use Rattle.integers.specs.Within.{Within};
-ghost use Rattle.integers.specs.Order.{minℤ, maxℤ};
+ghost use Rattle.integers.specs.Order.{min_ℤ, max_ℤ};
 ghost use Rattle.integers.specs.Inner.{Floor};
 
 // The lesser of two numbers. A call keeps the branch out of the caller's proof.
 pub fn min(a: i64, b: i64) -> i64
-    ensures { result ≡ minℤ a b }
+    ensures { result ≡ min_ℤ a b }
 {
     if a <= b { a } else { b }
 }
 
 // The greater of two numbers.
 pub fn max(a: i64, b: i64) -> i64
-    ensures { result ≡ maxℤ a b }
+    ensures { result ≡ max_ℤ a b }
 {
     if a <= b { b } else { a }
 }

@@ -18,8 +18,8 @@ use Rattle.grid.specs.Usable.{OneTo64, GridWithin}
 use Rattle.grid.proofs.Usable.{grid-weaken}
 use Rattle.layout.specs.declared.Layout.{Layout}
 use Rattle.layout.specs.Layout.{version1}
-use Rattle.layout.specs.Values.{headerIn, recordIn}
-use Rattle.layout.specs.Taken.{UsableLayout, pointIn, BoundedHeader}
+use Rattle.layout.specs.Values.{header_in, record_in}
+use Rattle.layout.specs.Taken.{UsableLayout, point_in, BoundedHeader}
 
 pub version1-usable : UsableLayout version1
 version1-usable = record {
@@ -32,15 +32,15 @@ version1-usable = record {
 }
 
 -- three signed fields, and a number of cells
-point-within : (s : List ℕ) (p w : ℕ) → 1 ≤ w → PointWithin (2 ^ (w - 1)) (pointIn s p w)
+point-within : (s : List ℕ) (p w : ℕ) → 1 ≤ w → PointWithin (2 ^ (w - 1)) (point_in s p w)
 point-within s p w h = record { x = signed-within s p w h; y = signed-within s (p + w) w h; z = signed-within s (p + w + w) w h }
 
 side : (s : List ℕ) (p : ℕ) → OneTo64 (field_at s p 6 + 1)
 side s p = record { some = omega arith; most = omega (arith, field_lt s p 6) }
 
 module _ (l : Layout) (u : UsableLayout l) (s : List ℕ) where
-  pub grid-within : GridWithin (2 ^ (l.coordinate - 1)) (2 ^ l.edge) (headerIn l s).grid
-  unfolding headerIn
+  pub grid-within : GridWithin (2 ^ (l.coordinate - 1)) (2 ^ l.edge) (header_in l s).grid
+  unfolding header_in
   grid-within = record {
     x = side s 4;
     y = side s 10;
@@ -49,17 +49,17 @@ module _ (l : Layout) (u : UsableLayout l) (s : List ℕ) where
     edge = record { within = le_of_lt (field_lt s 22 l.edge) };
   }
 
-  pub count-lt : (headerIn l s).count < 4096
-  unfolding headerIn
+  pub count-lt : (header_in l s).count < 4096
+  unfolding header_in
   count-lt = field_lt s (22 + l.edge + l.coordinate + l.coordinate + l.coordinate) 12
 
-  pub header-bounded : BoundedHeader (headerIn l s)
+  pub header-bounded : BoundedHeader (header_in l s)
   header-bounded = record { grid = grid-weaken (pow_mono {i = l.coordinate - 1} {j = 24} (omega (arith, u.coordinate-most))) (pow_mono u.edge-most) grid-within; count = count-lt }
 
-pub kind-lt : (s : List ℕ) → (recordIn version1 s).kind < 4
-unfolding recordIn
+pub kind-lt : (s : List ℕ) → (record_in version1 s).kind < 4
+unfolding record_in
 kind-lt s = field_lt s 0 2
 
-pub record-within : (s : List ℕ) → TriangleWithin (2 ^ 13) (recordIn version1 s).triangle
-unfolding recordIn
+pub record-within : (s : List ℕ) → TriangleWithin (2 ^ 13) (record_in version1 s).triangle
+unfolding record_in
 record-within s = record { v0 = point-within s 2 14 (lit≤ tt); v1 = point-within s 44 14 (lit≤ tt); v2 = point-within s 86 14 (lit≤ tt) }

@@ -17,21 +17,21 @@ use Rattle.geometry.specs.Geometry.{point}
 use Rattle.layout.specs.declared.Layout.{Layout}
 use Rattle.layout.specs.declared.Record.{Record}
 use Rattle.layout.specs.Layout.{version1}
-use Rattle.layout.specs.Values.{recordIn, kindIn}
-use Rattle.layout.specs.Taken.{pointIn}
+use Rattle.layout.specs.Values.{record_in, kind_in}
+use Rattle.layout.specs.Taken.{point_in}
 
 pub point-taken : {s : List ℕ} {c : Cursor} {w : ℕ} {x y z : SignedField} {rx ry rz : ℤ} → TakenSigned s c w x → TakenSigned s x.next w y
-    → TakenSigned s y.next w z → rx ≡ x.value → ry ≡ y.value → rz ≡ z.value → point rx ry rz ≡ pointIn s c.at w
+    → TakenSigned s y.next w z → rx ≡ x.value → ry ≡ y.value → rz ≡ z.value → point rx ry rz ≡ point_in s c.at w
 point-taken {c = c} {w} a b d ex ey ez =
     λ i. point ((ex ∙ a.value) i) ((ey ∙ taken-signed-value b (c.at + w) a.next) i) ((ez ∙ taken-signed-value d (c.at + w + w) (omega (arith, a.next, b.next))) i)
 
-pub record-taken : (l : Layout) (s : List ℕ) {k : ℕ} {p q r : Point} → k ≡ kindIn version1 s → let w = l.coordinate in
-    p ≡ pointIn s 2 w → q ≡ pointIn s (2 + 3 * w) w → r ≡ pointIn s (2 + 6 * w) w
-    → ◌≡◌ {A = Record} (record { triangle = record { v0 = p; v1 = q; v2 = r }; kind = k }) (recordIn l s)
-unfolding recordIn kindIn
+pub record-taken : (l : Layout) (s : List ℕ) {k : ℕ} {p q r : Point} → k ≡ kind_in version1 s → let w = l.coordinate in
+    p ≡ point_in s 2 w → q ≡ point_in s (2 + 3 * w) w → r ≡ point_in s (2 + 6 * w) w
+    → ◌≡◌ {A = Record} (record { triangle = record { v0 = p; v1 = q; v2 = r }; kind = k }) (record_in l s)
+unfolding record_in kind_in
 record-taken l s k p q r =
     let w = l.coordinate in
-    let at : ℕ → Point = λ n. pointIn s n w in
+    let at : ℕ → Point = λ n. point_in s n w in
     λ i. record {
       triangle = record {
         v0 = p i;
@@ -41,6 +41,6 @@ record-taken l s k p q r =
       kind = k i;
     }
 
-pub kind-any : (l m : Layout) (s : List ℕ) → kindIn l s ≡ kindIn m s
-unfolding kindIn
+pub kind-any : (l m : Layout) (s : List ℕ) → kind_in l s ≡ kind_in m s
+unfolding kind_in
 kind-any l m s = refl

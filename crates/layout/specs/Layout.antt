@@ -1,6 +1,6 @@
 -- The printed layout of the frame file: a header and records, each a list of fields, and how they are split into numbers. Definitions only.
 use Rattle.std.specs.Prelude.{List, [], ◌∷◌, ℕ, ◌+◌, ◌*◌, ℤ, pos}
-use Rattle.bits.specs.Field.{field_at, signedAt}
+use Rattle.bits.specs.Field.{field_at, signed_at}
 use Rattle.layout.specs.declared.Layout.{Layout}
 
 -- How a field's bits are read: as an unsigned number; as one that is stored less one; or as two's complement.
@@ -27,25 +27,25 @@ abbrev pub version1 : Layout
 version1 = record { header = 12; stride = 16; edge = 8; coordinate = 14; farthest = pos 8191 }
 
 -- The header: version, cells along x, y, z, cell edge, origin x, y, z, triangle count, zero bits.
-abbrev pub headerFields : Layout → List FieldForm
-headerFields l =
+abbrev pub header_fields : Layout → List FieldForm
+header_fields l =
     field plain 4 ∷ field less_one 6 ∷ field less_one 6 ∷ field less_one 6 ∷ field plain l.edge
     ∷ coordinates l.coordinate (field plain 12 ∷ field plain 12 ∷ [])
 
 -- A record: kind, then x, y, z of the corners 0, 1 and 2.
-abbrev pub recordFields : Layout → List FieldForm
-recordFields l = field plain 2 ∷ coordinates l.coordinate (coordinates l.coordinate (coordinates l.coordinate []))
+abbrev pub record_fields : Layout → List FieldForm
+record_fields l = field plain 2 ∷ coordinates l.coordinate (coordinates l.coordinate (coordinates l.coordinate []))
 
 -- The byte at which record i begins.
-abbrev pub recordStart : Layout → ℕ → ℕ
-recordStart l i = l.header + l.stride * i
+abbrev pub record_start : Layout → ℕ → ℕ
+record_start l i = l.header + l.stride * i
 
 -- ---- reading
 -- The number that w bits from bit p on hold.
 abbrev pub decoded : Coding → List ℕ → (p w : ℕ) → ℤ
 decoded plain s p w = pos (field_at s p w)
 decoded less_one s p w = pos (field_at s p w + 1)
-decoded signed s p w = signedAt s p w
+decoded signed s p w = signed_at s p w
 
 -- The numbers of fields that stand one behind the other, the first from bit p on.
 abbrev pub split : List FieldForm → List ℕ → (p : ℕ) → List ℤ

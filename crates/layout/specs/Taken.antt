@@ -1,6 +1,6 @@
 -- What the functions of the reader ask and answer. Definitions only.
 use Rattle.std.specs.Prelude.{List, ◌≡◌, ℕ, ◌+◌, ◌^◌, ◌<◌, ◌≤◌}
-use Rattle.bits.specs.Field.{field_at, signedAt}
+use Rattle.bits.specs.Field.{field_at, signed_at}
 use Rattle.bits.specs.declared.Cursor.{Cursor}
 use Rattle.geometry.specs.declared.Point.{Point}
 use Rattle.geometry.specs.Geometry.{point}
@@ -9,7 +9,7 @@ use Rattle.layout.specs.declared.Header.{Header}
 use Rattle.layout.specs.declared.Layout.{Layout}
 use Rattle.layout.specs.declared.CellsField.{CellsField}
 use Rattle.layout.specs.declared.HeaderFields.{HeaderFields}
-use Rattle.layout.specs.Values.{headerIn, reservedIn}
+use Rattle.layout.specs.Values.{header_in, reserved_in}
 
 -- A layout that a reader can take: lengths of at most 64 bytes, and fields of 1 to 25 bits, which a cursor takes at once.
 pub record UsableLayout (l : Layout) : Type 0 where
@@ -28,13 +28,13 @@ pub record TakenCells (s : List ℕ) (c : Cursor) (r : CellsField) : Type 0 wher
   pub next : r.next.at ≡ c.at + 18
 
 -- x, y and z from bit p on, signed, w bits each.
-abbrev pub pointIn : List ℕ → (p w : ℕ) → Point
-pointIn s p w = point (signedAt s p w) (signedAt s (p + w) w) (signedAt s (p + w + w) w)
+abbrev pub point_in : List ℕ → (p w : ℕ) → Point
+point_in s p w = point (signed_at s p w) (signed_at s (p + w) w) (signed_at s (p + w + w) w)
 
 -- What reading a header answers: its values, and its last bits.
 pub record ReadHeader (l : Layout) (s : List ℕ) (r : HeaderFields) : Type 0 where
-  pub header : r.header ≡ headerIn l s
-  pub reserved : r.reserved ≡ reservedIn l s
+  pub header : r.header ≡ header_in l s
+  pub reserved : r.reserved ≡ reserved_in l s
 
 -- What holds of every header that a layout gives, whatever the bytes.
 pub record BoundedHeader (h : Header) : Type 0 where

@@ -1,8 +1,8 @@
 // The layout of the frame file: a header and records of bit fields, and how they are read.
 ghost use Rattle.std.specs.Prelude.{◌≡◌, ◌+◌, ◌*◌, ◌/◌, ◌<◌, ◌≤◌, ◌^◌, length};
-ghost use Rattle.layout.specs.Layout.{version1, recordStart};
-ghost use Rattle.layout.specs.Values.{recordIn, kindIn, fromRecord};
-ghost use Rattle.layout.specs.Taken.{UsableLayout, TakenCells, pointIn, ReadHeader};
+ghost use Rattle.layout.specs.Layout.{version1, record_start};
+ghost use Rattle.layout.specs.Values.{record_in, kind_in, from_record};
+ghost use Rattle.layout.specs.Taken.{UsableLayout, TakenCells, point_in, ReadHeader};
 
 use bits::Cursor;
 use geometry::{Point, Triangle};
@@ -85,7 +85,7 @@ fn take_cells(cursor: Cursor, s: &[u8]) -> CellsField
 // The point whose x, y and z stand from bit `at` on, signed, `width` bits each.
 fn point_at(s: &[u8], at: usize, width: usize) -> Point
     requires { (1 ≤ width) × (width ≤ 25) × (at + 3 * width < 2 ^ 64) }
-    ensures { result ≡ pointIn s.now at width }
+    ensures { result ≡ point_in s.now at width }
 {
     let cursor = Cursor { at };
     let x = cursor.take_signed(s, width);
@@ -103,7 +103,7 @@ fn point_at(s: &[u8], at: usize, width: usize) -> Point
 // The same, where the bytes that have the fields are all there.
 fn point_inside(s: &[u8], at: usize, width: usize) -> Point
     requires { (1 ≤ width) × (width ≤ 25) × (at + 3 * width < 2 ^ 64) × ((at + 2 * width) / 8 + 3 < length s.now) }
-    ensures { result ≡ pointIn s.now at width }
+    ensures { result ≡ point_in s.now at width }
 {
     let cursor = Cursor { at };
     let x = cursor.take_inside(s, width);
@@ -157,15 +157,15 @@ pub fn read_header(layout: Layout, file: &[u8]) -> HeaderFields
 // The byte at which record i begins.
 pub fn record_start(layout: Layout, i: usize) -> usize
     requires { UsableLayout layout × (i < 4096) }
-    ensures { result ≡ recordStart layout i }
+    ensures { result ≡ record_start layout i }
 {
     layout.header + layout.stride * i
 }
 
 // The part of the file that starts at record i.
 pub fn from_record(layout: Layout, file: &[u8], i: usize) -> &[u8]
-    requires { UsableLayout layout × (i < 4096) × (recordStart layout i ≤ length file.now) }
-    ensures { result.now ≡ fromRecord layout file.now i }
+    requires { UsableLayout layout × (i < 4096) × (record_start layout i ≤ length file.now) }
+    ensures { result.now ≡ from_record layout file.now i }
 {
     let start = record_start(layout, i);
     &file[start..]
@@ -173,7 +173,7 @@ pub fn from_record(layout: Layout, file: &[u8], i: usize) -> &[u8]
 
 // The kind of the record at the start of `part`.
 pub fn read_kind(part: &[u8]) -> u32
-    ensures { result ≡ kindIn version1 part.now }
+    ensures { result ≡ kind_in version1 part.now }
 {
     let field = Cursor::new().take(part, 2);
     field.value
@@ -182,7 +182,7 @@ pub fn read_kind(part: &[u8]) -> u32
 // The values of the record at the start of `part`: the corners stand behind the kind's two bits.
 pub fn read_record(layout: Layout, part: &[u8]) -> Record
     requires { UsableLayout layout }
-    ensures { result ≡ recordIn layout part.now }
+    ensures { result ≡ record_in layout part.now }
 {
     let w = layout.coordinate;
     let v0 = point_at(part, 2, w);
@@ -197,7 +197,7 @@ pub fn read_record(layout: Layout, part: &[u8]) -> Record
 // last of a file so.
 pub fn read_inside(layout: Layout, part: &[u8]) -> Record
     requires { UsableLayout layout × (32 ≤ length part.now) }
-    ensures { result ≡ recordIn layout part.now }
+    ensures { result ≡ record_in layout part.now }
 {
     let w = layout.coordinate;
     let v0 = point_inside(part, 2, w);

@@ -13,16 +13,16 @@ use lib.ListN.{length, get_or}
 use lib.Seq.{take_all}
 use Rattle.bits.specs.declared.Pen.{Pen}
 use Rattle.bits.specs.Field.{field_at, bytes_of}
-use Rattle.bits.specs.Inner.{penBits, penNumber, Tidy, Put}
+use Rattle.bits.specs.Inner.{pen_bits, pen_number, Tidy, Put}
 use Rattle.bits.proofs.Pens.{bytes-field}
 use Rattle.layout.specs.Layout.{FieldForm}
-use Rattle.layout_write.specs.Writing.{canHold}
+use Rattle.layout_write.specs.Writing.{can_hold}
 use Rattle.layout_write.specs.Put.{Puttable}
 
 pub record Penned (K N : ℕ) (s : List ℕ) (len : ℕ) (p : Pen) : Type 0 where
   pub tidy : Tidy p
-  pub bits : penBits p ≡ K
-  pub number : penNumber s p ≡ N
+  pub bits : pen_bits p ≡ K
+  pub number : pen_number s p ≡ N
   pub same : length s ≡ len
 
 pub penned-first : (s : List ℕ) {p : Pen} {len : ℕ} → (p.at ≡ 0) × (p.bits ≡ 0) × (p.held ≡ 0) → length s ≡ len → Penned 0 0 s len p
@@ -46,7 +46,7 @@ module _ {K N len : ℕ} {s : List ℕ} {p : Pen} (d : Penned K N s len p) where
       }
 
   pub puttable : (f : FieldForm) {ns : List ℤ} {i : ℕ} → 1 ≤ f.bits → f.bits ≤ 25 → K + f.bits ≤ len * 8 → i < length ns
-      → canHold f (get_or ns i (pos 0)) ≡ true → Puttable s p f ns i
+      → can_hold f (get_or ns i (pos 0)) ≡ true → Puttable s p f ns i
   puttable f some most room there held =
       record { room = record { tidy = d.tidy; narrow = most; room = omega (arith, d.bits, d.same) }; some = some; there = there; held = held }
 

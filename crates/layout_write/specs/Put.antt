@@ -3,9 +3,9 @@ use Rattle.std.specs.Prelude.{true, List, [], ◌∷◌, ◌≡◌, ℕ, ◌+◌
 use Rattle.bits.specs.declared.Pen.{Pen}
 use Rattle.bits.specs.Inner.{Room, Put}
 use Rattle.layout.specs.declared.Layout.{Layout}
-use Rattle.layout.specs.Layout.{FieldForm, headerFields, recordFields}
+use Rattle.layout.specs.Layout.{FieldForm, header_fields, record_fields}
 use Rattle.layout.specs.Taken.{UsableLayout}
-use Rattle.layout_write.specs.Writing.{canHold, encoded}
+use Rattle.layout_write.specs.Writing.{can_hold, encoded}
 
 -- How many bits fields have together.
 abbrev pub total : List FieldForm → ℕ
@@ -15,8 +15,8 @@ total (f ∷ fs) = f.bits + total fs
 -- A layout that a writer can take: headers and records fill their bytes, and a coordinate's field can hold a kind.
 pub record WritableLayout (l : Layout) : Type 0 where
   pub usable : UsableLayout l
-  pub header : total (headerFields l) ≡ l.header * 8
-  pub stride : total (recordFields l) ≡ l.stride * 8
+  pub header : total (header_fields l) ≡ l.header * 8
+  pub stride : total (record_fields l) ≡ l.stride * 8
   pub coordinate : 3 ≤ l.coordinate
 
 -- Number i of a list can be put behind a pen, as the field f.
@@ -24,7 +24,7 @@ pub record Puttable (s : List ℕ) (p : Pen) (f : FieldForm) (ns : List ℤ) (i 
   pub room : Room s p f.bits
   pub some : 1 ≤ f.bits
   pub there : i < length ns
-  pub held : canHold f (get_or ns i (pos 0)) ≡ true
+  pub held : can_hold f (get_or ns i (pos 0)) ≡ true
 
 -- It has been put there.
 abbrev pub PutNumber : (old : List ℕ) → Pen → FieldForm → List ℤ → ℕ → (new : List ℕ) → Pen → Type 0

@@ -1,7 +1,7 @@
 // How the numbers of a header and of a record are put into bytes, field by field.
 ghost use Rattle.std.specs.Prelude.{true, ◌≡◌, length};
-ghost use Rattle.layout.specs.Layout.{field, plain, less_one, signed, headerFields, recordFields};
-ghost use Rattle.layout_write.specs.Writing.{canHoldAll, headerBytes, recordBytes};
+ghost use Rattle.layout.specs.Layout.{field, plain, less_one, signed, header_fields, record_fields};
+ghost use Rattle.layout_write.specs.Writing.{can_hold_all, header_bytes, record_bytes};
 ghost use Rattle.layout_write.specs.Put.{WritableLayout, Puttable, PutNumber};
 
 use bits::Pen;
@@ -36,8 +36,8 @@ fn put_signed(pen: Pen, out: &mut [u8], width: usize, numbers: &[i32], i: usize)
 
 // Writes the ten numbers of a header into its bytes.
 pub fn put_header(layout: Layout, out: &mut [u8], numbers: &[i32])
-    requires { WritableLayout layout × (canHoldAll (headerFields layout) numbers.now ≡ true) × (length out.old ≡ layout.header) }
-    ensures { out.new ≡ headerBytes layout numbers.now }
+    requires { WritableLayout layout × (can_hold_all (header_fields layout) numbers.now ≡ true) × (length out.old ≡ layout.header) }
+    ensures { out.new ≡ header_bytes layout numbers.now }
 {
     let w = layout.coordinate;
     let version = put_plain(Pen::new(), out, 4, numbers, 0);
@@ -55,8 +55,8 @@ pub fn put_header(layout: Layout, out: &mut [u8], numbers: &[i32])
 // Writes the ten numbers of a record into its bytes. The fields stand in one function, so that the compiler knows the
 // place of each.
 pub fn put_record(layout: Layout, out: &mut [u8], numbers: &[i32])
-    requires { WritableLayout layout × (canHoldAll (recordFields layout) numbers.now ≡ true) × (length out.old ≡ layout.stride) }
-    ensures { out.new ≡ recordBytes layout numbers.now }
+    requires { WritableLayout layout × (can_hold_all (record_fields layout) numbers.now ≡ true) × (length out.old ≡ layout.stride) }
+    ensures { out.new ≡ record_bytes layout numbers.now }
 {
     let w = layout.coordinate;
     let kind = put_plain(Pen::new(), out, 2, numbers, 0);

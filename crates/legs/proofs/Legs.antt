@@ -9,7 +9,7 @@ use mathlib.Core.Path.{◌≡◌, refl, sym, ap, ap₂, ◌∙◌}
 use Prim.Native.Nat.{ℕ, ◌<◌}
 use lib.IntN.{ℤ, pos, neg_ℤ, nat_abs, ◌+ℤ◌, ◌-ℤ◌, ◌*ℤ◌, *ℤ-zero, zero-*ℤ}
 use lib.Signed.{◌≤ℤ◌, le_z, lt_z}
-use Rattle.integers.specs.Order.{minℤ, maxℤ}
+use Rattle.integers.specs.Order.{min_ℤ, max_ℤ}
 use Rattle.integers.proofs.Omega.{zarith, +!, -!, neg!, abs! }
 use Rattle.integers.proofs.Laws.{NN}
 use Rattle.integers.proofs.Expr.{Expr, var, num, neg, ◌⊕◌, ◌⊖◌, ◌⊗◌}
@@ -19,21 +19,21 @@ use Rattle.integers.proofs.MinMax.{max!, max-left, max-right}
 use Rattle.integers.proofs.Scales.{max-scale}
 use Rattle.geometry.specs.declared.Point.{Point}
 use Rattle.geometry.specs.declared.Triangle.{Triangle}
-use Rattle.geometry.specs.Geometry.{point, minus, dot, leg, xOf, yOf, z_of, cube}
+use Rattle.geometry.specs.Geometry.{point, minus, dot, leg, x_of, y_of, z_of, cube}
 use Rattle.grid.specs.declared.Lattice.{Lattice}
-use Rattle.grid.specs.Grid.{boxCorner}
-use Rattle.overlap.specs.Rule.{normal, boxHolds, planeHolds, edgesHold, overlapsBox}
+use Rattle.grid.specs.Grid.{box_corner}
+use Rattle.overlap.specs.Rule.{normal, box_holds, plane_holds, edges_hold, overlaps_box}
 use Rattle.overlap.proofs.Corners.{least8-sum, greatest8-sum}
 use Rattle.grid.specs.declared.BoxRange.{BoxRange}
 use Rattle.grid.specs.Range.{in_range}
 use Rattle.ranges.specs.Range.{PicksBox}
 use Rattle.integers.proofs.Truth.{same_truth}
 use Rattle.legs.specs.declared.Slab.{Slab}
-use Rattle.legs.specs.Slab.{risingSlab, slabOf, slabsOf, form_of, slabHolds, rowHolds, cellHolds}
+use Rattle.legs.specs.Slab.{rising_slab, slab_of, slabs_of, form_of, slab_holds, row_holds, cell_holds}
 
 -- ---- an edge's value, with m = (ma, mb)
 abbrev value : (ma mb va vb pa pb d : ℤ) → ℤ
-value ma mb va vb pa pb d = ma *ℤ pa +ℤ mb *ℤ pb -ℤ (ma *ℤ va +ℤ mb *ℤ vb) +ℤ maxℤ (pos 0) (d *ℤ ma) +ℤ maxℤ (pos 0) (d *ℤ mb)
+value ma mb va vb pa pb d = ma *ℤ pa +ℤ mb *ℤ pb -ℤ (ma *ℤ va +ℤ mb *ℤ vb) +ℤ max_ℤ (pos 0) (d *ℤ ma) +ℤ max_ℤ (pos 0) (d *ℤ mb)
 
 -- of an edge with no length
 no_value : (va vb pa pb d : ℤ) {ma mb : ℤ} → ma ≡ pos 0 → mb ≡ pos 0 → value ma mb va vb pa pb d ≡ pos 0
@@ -43,7 +43,7 @@ no_value va vb pa pb d p q =
 -- of the two others: the leg goes by (ea, eb) from (va, vb), and an edge starts there or at any other point of the leg's line
 module _ (ea eb va vb oa ob step d i j : ℤ) (down : eb ≤ℤ pos 0) (h : NN d) where
   abbrev s : Slab
-  s = risingSlab ea eb (va -ℤ oa) (vb -ℤ ob) step d
+  s = rising_slab ea eb (va -ℤ oa) (vb -ℤ ob) step d
 
   abbrev at : (ma mb wa wb : ℤ) → ℤ
   at ma mb wa wb = value ma mb wa wb (oa +ℤ i *ℤ step) (ob +ℤ j *ℤ step) d
@@ -54,7 +54,7 @@ module _ (ea eb va vb oa ob step d i j : ℤ) (down : eb ≤ℤ pos 0) (h : NN d
   -- the numbers, with an edge's start, max(0, ea), max(0, −ea) and |ea|; and what is said of them, as expressions
   abbrev ρ : (wa wb : ℤ) → List ℤ
   ρ wa wb =
-      ea ∷ eb ∷ va ∷ vb ∷ oa ∷ ob ∷ step ∷ d ∷ i ∷ j ∷ wa ∷ wb ∷ maxℤ (pos 0) ea ∷ maxℤ (pos 0) (neg_ℤ ea) ∷ pos (nat_abs ea) ∷ []
+      ea ∷ eb ∷ va ∷ vb ∷ oa ∷ ob ∷ step ∷ d ∷ i ∷ j ∷ wa ∷ wb ∷ max_ℤ (pos 0) ea ∷ max_ℤ (pos 0) (neg_ℤ ea) ∷ pos (nat_abs ea) ∷ []
 
   abbrev form : Expr
   form =
@@ -80,11 +80,11 @@ module _ (ea eb va vb oa ob step d i j : ℤ) (down : eb ≤ℤ pos 0) (h : NN d
       (by-eq (ρ wa wb) (valued (neg (neg (var 1))) (neg (var 0)) (num 0) (var 13)) (var 7 ⊗ (var 14 ⊖ var 1) ⊖ form)
       (line (num 1) on ⊹ ze (var 7) (var 12 ⊕ var 13) (var 14) both) tt)
     where
-      both : maxℤ (pos 0) ea +ℤ maxℤ (pos 0) (neg_ℤ ea) ≡ pos (nat_abs ea)
-      both = omega (zarith, +! (maxℤ (pos 0) ea) (maxℤ (pos 0) (neg_ℤ ea)), max! (pos 0) ea, max! (pos 0) (neg_ℤ ea), neg! ea, abs! ea)
+      both : max_ℤ (pos 0) ea +ℤ max_ℤ (pos 0) (neg_ℤ ea) ≡ pos (nat_abs ea)
+      both = omega (zarith, +! (max_ℤ (pos 0) ea) (max_ℤ (pos 0) (neg_ℤ ea)), max! (pos 0) ea, max! (pos 0) (neg_ℤ ea), neg! ea, abs! ea)
 
   two_edges : (wa wb ua ub : ℤ) → On wa wb → On ua ub
-      → (le_z (pos 0) (at (neg_ℤ eb) ea wa wb) && le_z (pos 0) (at (neg_ℤ (neg_ℤ eb)) (neg_ℤ ea) ua ub)) ≡ slabHolds s i j
+      → (le_z (pos 0) (at (neg_ℤ eb) ea wa wb) && le_z (pos 0) (at (neg_ℤ (neg_ℤ eb)) (neg_ℤ ea) ua ub)) ≡ slab_holds s i j
   two_edges wa wb ua ub p q =
       ap₂ ◌&&◌ (ap (le_z (pos 0)) (ahead wa wb p)) (ap (le_z (pos 0)) (back ua ub q) ∙ below-reach (form_of s i j) s.reach)
     where
@@ -110,8 +110,8 @@ module _ (aa ab ba bb oa ob step d i j : ℤ) (h : NN d) where
   middle =
       ap (le_z (pos 0)) (no_value ba bb (oa +ℤ i *ℤ step) (ob +ℤ j *ℤ step) d (ring corners (neg (var 3 ⊖ var 3)) (num 0) tt) (ring corners (var 2 ⊖ var 2) (num 0) tt))
 
-  outer : (passes (neg_ℤ eb) ea aa ab && passes (neg_ℤ (ab -ℤ bb)) (aa -ℤ ba) ba bb) ≡ slabHolds (slabOf ea eb (aa -ℤ oa) (ab -ℤ ob) step d) i j
-  unfolding slabOf
+  outer : (passes (neg_ℤ eb) ea aa ab && passes (neg_ℤ (ab -ℤ bb)) (aa -ℤ ba) ba bb) ≡ slab_holds (slab_of ea eb (aa -ℤ oa) (ab -ℤ ob) step d) i j
+  unfolding slab_of
   outer = go (lt_z (pos 0) eb) refl
     where
       twice : (z : ℤ) → z ≡ neg_ℤ (neg_ℤ z)
@@ -124,7 +124,7 @@ module _ (aa ab ba bb oa ob step d i j : ℤ) (h : NN d) where
 
       go : (t : Bool) → lt_z (pos 0) eb ≡ t
           → (passes (neg_ℤ eb) ea aa ab && passes (neg_ℤ (ab -ℤ bb)) (aa -ℤ ba) ba bb)
-          ≡ slabHolds (cond t (risingSlab (neg_ℤ ea) (neg_ℤ eb) (aa -ℤ oa) (ab -ℤ ob) step d) (risingSlab ea eb (aa -ℤ oa) (ab -ℤ ob) step d)) i j
+          ≡ slab_holds (cond t (rising_slab (neg_ℤ ea) (neg_ℤ eb) (aa -ℤ oa) (ab -ℤ ob) step d) (rising_slab ea eb (aa -ℤ oa) (ab -ℤ ob) step d)) i j
       go true e =
           and_comm (passes (neg_ℤ eb) ea aa ab) _
           ∙ ap₂ ◌&&◌ reversed (ap₂ (λ (x y : ℤ). passes (neg_ℤ x) y aa ab) (twice eb) (twice ea))
@@ -136,7 +136,7 @@ module _ (aa ab ba bb oa ob step d i j : ℤ) (h : NN d) where
           (ring corners ((var 2 ⊖ var 0) ⊗ var 3 ⊖ (var 3 ⊖ var 1) ⊗ var 2) ((var 2 ⊖ var 0) ⊗ var 1 ⊖ (var 3 ⊖ var 1) ⊗ var 0) tt)
 
   in-plane : (passes (neg_ℤ eb) ea aa ab && passes (neg_ℤ (bb -ℤ bb)) (ba -ℤ ba) ba bb && passes (neg_ℤ (ab -ℤ bb)) (aa -ℤ ba) ba bb)
-      ≡ slabHolds (slabOf ea eb (aa -ℤ oa) (ab -ℤ ob) step d) i j
+      ≡ slab_holds (slab_of ea eb (aa -ℤ oa) (ab -ℤ ob) step d) i j
   in-plane = rw (middle, and-true) outer
 
 -- ---- the plane, whose normal is 0
@@ -163,16 +163,16 @@ module _ (p q : Point) where
   flat : normal t ≡ point (pos 0) (pos 0) (pos 0)
   flat = let e = minus q p in λ i. point (no-normal e.y e.z i) (no-normal e.z e.x i) (no-normal e.x e.y i)
 
-  plane-holds : (c d : Point) → planeHolds t c d ≡ true
+  plane-holds : (c d : Point) → plane_holds t c d ≡ true
   plane-holds c d =
       let w = minus c p in
       ap₂ (λ (x y : ℤ). le_z x (pos 0) && le_z (pos 0) y)
-      (least8-sum t c d ∙ no-sum minℤ refl (normal t) d w flat)
-      (greatest8-sum t c d ∙ no-sum maxℤ refl (normal t) d w flat)
+      (least8-sum t c d ∙ no-sum min_ℤ refl (normal t) d w flat)
+      (greatest8-sum t c d ∙ no-sum max_ℤ refl (normal t) d w flat)
 
   module _ (l : Lattice) (h : NN l.extent) (i j k : ℕ) where
     abbrev c : Point
-    c = boxCorner l i j k
+    c = box_corner l i j k
 
     abbrev d : Point
     d = cube l.extent
@@ -180,33 +180,33 @@ module _ (p q : Point) where
     abbrev o : Point
     o = l.first
 
-    pub leg-rule : let s = slabsOf l p q in
-        overlapsBox (leg p q) (boxCorner l i j k) (cube l.extent)
-        ≡ (boxHolds (leg p q) (boxCorner l i j k) (cube l.extent) xOf
-        && boxHolds (leg p q) (boxCorner l i j k) (cube l.extent) yOf
-        && boxHolds (leg p q) (boxCorner l i j k) (cube l.extent) z_of
-        && slabHolds s.xy (pos i) (pos j)
-        && slabHolds s.yz (pos j) (pos k)
-        && slabHolds s.zx (pos k) (pos i))
-    unfolding overlapsBox
+    pub leg-rule : let s = slabs_of l p q in
+        overlaps_box (leg p q) (box_corner l i j k) (cube l.extent)
+        ≡ (box_holds (leg p q) (box_corner l i j k) (cube l.extent) x_of
+        && box_holds (leg p q) (box_corner l i j k) (cube l.extent) y_of
+        && box_holds (leg p q) (box_corner l i j k) (cube l.extent) z_of
+        && slab_holds s.xy (pos i) (pos j)
+        && slab_holds s.yz (pos j) (pos k)
+        && slab_holds s.zx (pos k) (pos i))
+    unfolding overlaps_box
     leg-rule =
-        let boxes = boxHolds t c d xOf && boxHolds t c d yOf && boxHolds t c d z_of in
+        let boxes = box_holds t c d x_of && box_holds t c d y_of && box_holds t c d z_of in
         ap₂ ◌&&◌
         (ap₂ ◌&&◌
         (ap₂ ◌&&◌ (ap (λ (b : Bool). boxes && b) (plane-holds c d) ∙ and-true boxes)
-        (ap (λ (m : Point). edgesHold t c d xOf yOf m.z) flat ∙ in-plane p.x p.y q.x q.y o.x o.y l.step l.extent (pos i) (pos j) h))
-        (ap (λ (m : Point). edgesHold t c d yOf z_of m.x) flat ∙ in-plane p.y p.z q.y q.z o.y o.z l.step l.extent (pos j) (pos k) h))
-        (ap (λ (m : Point). edgesHold t c d z_of xOf m.y) flat ∙ in-plane p.z p.x q.z q.x o.z o.x l.step l.extent (pos k) (pos i) h)
+        (ap (λ (m : Point). edges_hold t c d x_of y_of m.z) flat ∙ in-plane p.x p.y q.x q.y o.x o.y l.step l.extent (pos i) (pos j) h))
+        (ap (λ (m : Point). edges_hold t c d y_of z_of m.x) flat ∙ in-plane p.y p.z q.y q.z o.y o.z l.step l.extent (pos j) (pos k) h))
+        (ap (λ (m : Point). edges_hold t c d z_of x_of m.y) flat ∙ in-plane p.z p.x q.z q.x o.z o.x l.step l.extent (pos k) (pos i) h)
 
     -- of a cell of the grid, by the ranges of cells whose box test holds, and the slabs
     pub leg-by-range : {nx ny nz : ℕ} {r : BoxRange} → PicksBox (leg p q) l nx ny nz r → i < nx → j < ny → k < nz
-        → let s = slabsOf l p q in
-        overlapsBox (leg p q) (boxCorner l i j k) (cube l.extent)
-        ≡ (in_range r.x i && in_range r.y j && in_range r.z k && rowHolds s k j && cellHolds s i j k)
-    unfolding cellHolds
+        → let s = slabs_of l p q in
+        overlaps_box (leg p q) (box_corner l i j k) (cube l.extent)
+        ≡ (in_range r.x i && in_range r.y j && in_range r.z k && row_holds s k j && cell_holds s i j k)
+    unfolding cell_holds
     leg-by-range {r = r} picks hi hj hk =
-        let s = slabsOf l p q in
+        let s = slabs_of l p q in
         leg-rule
-        ∙ ap (λ (b : Bool). b && slabHolds s.xy (pos i) (pos j) && slabHolds s.yz (pos j) (pos k) && slabHolds s.zx (pos k) (pos i))
+        ∙ ap (λ (b : Bool). b && slab_holds s.xy (pos i) (pos j) && slab_holds s.yz (pos j) (pos k) && slab_holds s.zx (pos k) (pos i))
         (sym (ap₂ ◌&&◌ (ap₂ ◌&&◌ (picks.x.exact i hi) (picks.y.exact j hj)) (picks.z.exact k hk)))
         ∙ row_first (in_range r.x i && in_range r.y j && in_range r.z k) _ _ _

@@ -3,73 +3,73 @@
 use Rattle.std.specs.Prelude.{Bool, cond, ◌&&◌, List, [], ◌∷◌, ℕ, ◌≤◌, ℤ, pos, neg_ℤ, nat_abs, ◌+ℤ◌, ◌-ℤ◌, ◌*ℤ◌, ◌≤ℤ◌}
 use Rattle.std.specs.Int.Signed.{le_z, lt_z}
 use Rattle.integers.specs.Within.{Within}
-use Rattle.integers.specs.Order.{maxℤ}
-use Rattle.geometry.specs.Bounds.{offsetMax, stepMax, extentMax, indexMax}
+use Rattle.integers.specs.Order.{max_ℤ}
+use Rattle.geometry.specs.Bounds.{offset_max, step_max, extent_max, index_max}
 use Rattle.geometry.specs.declared.Point.{Point}
-use Rattle.geometry.specs.Geometry.{Axis, xOf, yOf, z_of}
+use Rattle.geometry.specs.Geometry.{Axis, x_of, y_of, z_of}
 use Rattle.grid.specs.declared.Lattice.{Lattice}
 use Rattle.grid.specs.declared.CellRange.{CellRange}
-use Rattle.runs.specs.Run.{slopeMax, reachMax}
+use Rattle.runs.specs.Run.{slope_max, reach_max}
 use Rattle.legs.specs.declared.Slab.{Slab}
 use Rattle.legs.specs.declared.Slabs.{Slabs}
 
 -- ---- the slab of a leg in the plane of two axes
 -- The leg goes by (ea, eb) from the point (va, vb), which is measured from the first box's corner. The boxes are `step` apart, and `extent` long.
-abbrev pub risingSlab : (ea eb va vb step extent : ℤ) → Slab
-risingSlab ea eb va vb step extent = record {
+abbrev pub rising_slab : (ea eb va vb step extent : ℤ) → Slab
+rising_slab ea eb va vb step extent = record {
   a = neg_ℤ (step *ℤ eb);
   b = step *ℤ ea;
-  c = extent *ℤ (maxℤ (pos 0) ea -ℤ eb) -ℤ (ea *ℤ vb -ℤ eb *ℤ va);
+  c = extent *ℤ (max_ℤ (pos 0) ea -ℤ eb) -ℤ (ea *ℤ vb -ℤ eb *ℤ va);
   reach = extent *ℤ (pos (nat_abs ea) -ℤ eb);
 }
 
 -- The leg is taken in the direction in which eb is not positive, so that the form does not fall with i.
-unfoldable pub slabOf : (ea eb va vb step extent : ℤ) → Slab
-slabOf ea eb va vb step extent =
-    cond (lt_z (pos 0) eb) (risingSlab (neg_ℤ ea) (neg_ℤ eb) va vb step extent) (risingSlab ea eb va vb step extent)
+unfoldable pub slab_of : (ea eb va vb step extent : ℤ) → Slab
+slab_of ea eb va vb step extent =
+    cond (lt_z (pos 0) eb) (rising_slab (neg_ℤ ea) (neg_ℤ eb) va vb step extent) (rising_slab ea eb va vb step extent)
 
 -- The slabs of the leg from p to q, for the boxes of a lattice: in the plane of the axes a and b, and in each plane.
-abbrev pub slabIn : Lattice → (p q : Point) → (a b : Axis) → Slab
-slabIn l p q a b = slabOf (a q -ℤ a p) (b q -ℤ b p) (a p -ℤ a l.first) (b p -ℤ b l.first) l.step l.extent
+abbrev pub slab_in : Lattice → (p q : Point) → (a b : Axis) → Slab
+slab_in l p q a b = slab_of (a q -ℤ a p) (b q -ℤ b p) (a p -ℤ a l.first) (b p -ℤ b l.first) l.step l.extent
 
-abbrev pub slabsOf : Lattice → (p q : Point) → Slabs
-slabsOf l p q = record { xy = slabIn l p q xOf yOf; yz = slabIn l p q yOf z_of; zx = slabIn l p q z_of xOf }
+abbrev pub slabs_of : Lattice → (p q : Point) → Slabs
+slabs_of l p q = record { xy = slab_in l p q x_of y_of; yz = slab_in l p q y_of z_of; zx = slab_in l p q z_of x_of }
 
 -- ---- the cells that lie in a slab
 -- The form at the cell with the numbers i and j, and its test.
 abbrev pub form_of : Slab → (i j : ℤ) → ℤ
 form_of s i j = s.a *ℤ i +ℤ s.b *ℤ j +ℤ s.c
 
-abbrev pub slabHolds : Slab → (i j : ℤ) → Bool
-slabHolds s i j = le_z (pos 0) (form_of s i j) && le_z (form_of s i j) s.reach
+abbrev pub slab_holds : Slab → (i j : ℤ) → Bool
+slab_holds s i j = le_z (pos 0) (form_of s i j) && le_z (form_of s i j) s.reach
 
 -- The same along a run of cells, where the number on the other axis is k.
-abbrev pub slabAlong : Slab → (k i : ℕ) → Bool
-slabAlong s k i = slabHolds s (pos i) (pos k)
+abbrev pub slab_along : Slab → (k i : ℕ) → Bool
+slab_along s k i = slab_holds s (pos i) (pos k)
 
 -- Row j of layer k, by the slab in YZ, which does not see where along the row a cell is; cell i of row j, by the slab in XY, which does not see the layer; and
 -- cell i of row j of layer k, by the two that see it.
-abbrev pub rowHolds : Slabs → (k j : ℕ) → Bool
-rowHolds s = slabAlong s.yz
+abbrev pub row_holds : Slabs → (k j : ℕ) → Bool
+row_holds s = slab_along s.yz
 
-abbrev pub columnHolds : Slabs → (j i : ℕ) → Bool
-columnHolds s = slabAlong s.xy
+abbrev pub column_holds : Slabs → (j i : ℕ) → Bool
+column_holds s = slab_along s.xy
 
-unfoldable pub cellHolds : Slabs → (i j k : ℕ) → Bool
-cellHolds s i j k = slabHolds s.xy (pos i) (pos j) && slabHolds s.zx (pos k) (pos i)
+unfoldable pub cell_holds : Slabs → (i j k : ℕ) → Bool
+cell_holds s i j k = slab_holds s.xy (pos i) (pos j) && slab_holds s.zx (pos k) (pos i)
 
 -- ---- what the functions ask
 -- A leg's direction and starting point in a plane, the step and the extent.
-abbrev pub slabBounds : List ℕ
-slabBounds = offsetMax ∷ offsetMax ∷ offsetMax ∷ offsetMax ∷ stepMax ∷ extentMax ∷ []
+abbrev pub slab_bounds : List ℕ
+slab_bounds = offset_max ∷ offset_max ∷ offset_max ∷ offset_max ∷ step_max ∷ extent_max ∷ []
 
 -- A slab whose form does not fall with i, and whose numbers are as small as runs of cells ask.
 pub record BoundedSlab (s : Slab) : Type 0 where
   pub rises : pos 0 ≤ℤ s.a
-  pub a : Within slopeMax s.a
-  pub b : Within slopeMax s.b
-  pub c : Within reachMax s.c
-  pub reach : Within reachMax s.reach
+  pub a : Within slope_max s.a
+  pub b : Within slope_max s.b
+  pub c : Within reach_max s.c
+  pub reach : Within reach_max s.reach
 
 pub record BoundedSlabs (s : Slabs) : Type 0 where
   pub xy : BoundedSlab s.xy
@@ -80,5 +80,5 @@ pub record BoundedSlabs (s : Slabs) : Type 0 where
 pub record ReadyRun (run : CellRange) (near at : ℕ) : Type 0 where
   pub low : run.first ≤ near
   pub high : near ≤ run.end
-  pub most : run.end ≤ indexMax
-  pub across : at ≤ indexMax
+  pub most : run.end ≤ index_max
+  pub across : at ≤ index_max

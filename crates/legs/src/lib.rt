@@ -2,10 +2,10 @@
 // rules out no cell, and in the plane of two axes the tests of its edges are one slab.
 ghost use Rattle.std.specs.Prelude.{[], ◌∷◌, ◌≡◌, ◌≤◌};
 ghost use Rattle.integers.specs.Within.{Within, Withins};
-ghost use Rattle.geometry.specs.Bounds.{indexMax, BoundedPoint};
+ghost use Rattle.geometry.specs.Bounds.{index_max, BoundedPoint};
 ghost use Rattle.grid.specs.Usable.{UsableLattice};
 ghost use Rattle.runs.specs.Run.{Narrows};
-ghost use Rattle.legs.specs.Slab.{risingSlab, slabOf, slabsOf, slabHolds, slabAlong, rowHolds, columnHolds, cellHolds, slabBounds, BoundedSlab, BoundedSlabs, ReadyRun};
+ghost use Rattle.legs.specs.Slab.{rising_slab, slab_of, slabs_of, slab_holds, slab_along, row_holds, column_holds, cell_holds, slab_bounds, BoundedSlab, BoundedSlabs, ReadyRun};
 
 use geometry::Point;
 use grid::{CellRange, Lattice};
@@ -30,8 +30,8 @@ pub struct Slabs {
 // The slab of a leg that goes by (ea, eb) from (va, vb), which is measured from the first box's corner. The leg is taken
 // in the direction in which the form does not fall with i.
 fn slab_of(ea: i64, eb: i64, va: i64, vb: i64, step: i64, extent: i64) -> Slab
-    requires { Withins slabBounds (ea ∷ eb ∷ va ∷ vb ∷ step ∷ extent ∷ []) }
-    ensures { result ≡ slabOf ea eb va vb step extent }
+    requires { Withins slab_bounds (ea ∷ eb ∷ va ∷ vb ∷ step ∷ extent ∷ []) }
+    ensures { result ≡ slab_of ea eb va vb step extent }
 {
     if 0 < eb {
         return rising(-ea, -eb, va, vb, step, extent);
@@ -41,8 +41,8 @@ fn slab_of(ea: i64, eb: i64, va: i64, vb: i64, step: i64, extent: i64) -> Slab
 
 // The slab, where eb is not positive.
 fn rising(ea: i64, eb: i64, va: i64, vb: i64, step: i64, extent: i64) -> Slab
-    requires { Withins slabBounds (ea ∷ eb ∷ va ∷ vb ∷ step ∷ extent ∷ []) }
-    ensures { result ≡ risingSlab ea eb va vb step extent }
+    requires { Withins slab_bounds (ea ∷ eb ∷ va ∷ vb ∷ step ∷ extent ∷ []) }
+    ensures { result ≡ rising_slab ea eb va vb step extent }
 {
     let c = extent * (integers::max(0, ea) - eb) - (ea * vb - eb * va);
     let reach = extent * (integers::magnitude(ea) - eb);
@@ -57,7 +57,7 @@ fn rising(ea: i64, eb: i64, va: i64, vb: i64, step: i64, extent: i64) -> Slab
 // The slabs of the leg from a to b, for the boxes of a lattice.
 pub fn leg_slabs(a: Point, b: Point, l: Lattice) -> Slabs
     requires { BoundedPoint a × BoundedPoint b × UsableLattice l }
-    ensures { result ≡ slabsOf l a b }
+    ensures { result ≡ slabs_of l a b }
 {
     let first = l.first;
     let step = l.step;
@@ -77,7 +77,7 @@ pub fn leg_slabs(a: Point, b: Point, l: Lattice) -> Slabs
 // Of the rows y of layer k, those that lie in the slab in YZ. They are sought from the row `near`.
 pub fn rows(s: Slabs, y: CellRange, near: usize, k: usize) -> CellRange
     requires { BoundedSlabs s × ReadyRun y near k }
-    ensures { Narrows y (rowHolds s k) result }
+    ensures { Narrows y (row_holds s k) result }
 {
     narrow(s.yz, y, near, k)
 }
@@ -85,7 +85,7 @@ pub fn rows(s: Slabs, y: CellRange, near: usize, k: usize) -> CellRange
 // Of the cells x of row j, those that lie in the slab in XY. They are sought from the cell `near`.
 pub fn cells(s: Slabs, x: CellRange, near: usize, j: usize) -> CellRange
     requires { BoundedSlabs s × ReadyRun x near j }
-    ensures { Narrows x (columnHolds s j) result }
+    ensures { Narrows x (column_holds s j) result }
 {
     narrow(s.xy, x, near, j)
 }
@@ -93,7 +93,7 @@ pub fn cells(s: Slabs, x: CellRange, near: usize, j: usize) -> CellRange
 // The part of a run that lies in the slab, where the number on the other axis is `at`.
 fn narrow(s: Slab, run: CellRange, near: usize, at: usize) -> CellRange
     requires { BoundedSlab s × ReadyRun run near at }
-    ensures { Narrows run (slabAlong s at) result }
+    ensures { Narrows run (slab_along s at) result }
 {
     runs::by_slab(
         run,
@@ -106,8 +106,8 @@ fn narrow(s: Slab, run: CellRange, near: usize, at: usize) -> CellRange
 
 // Does the cell with the numbers i and j lie in the slab?
 fn slab_test(s: Slab, i: i64, j: i64) -> bool
-    requires { BoundedSlab s × Within indexMax i × Within indexMax j }
-    ensures { result ≡ slabHolds s i j }
+    requires { BoundedSlab s × Within index_max i × Within index_max j }
+    ensures { result ≡ slab_holds s i j }
 {
     let x = s.a * i + s.b * j + s.c;
     if x < 0 {
@@ -119,8 +119,8 @@ fn slab_test(s: Slab, i: i64, j: i64) -> bool
 // Does cell (i, j, k) lie in the slabs in XY and ZX? In the leg's box, and in a row that lies in the slab in YZ, nothing
 // else is left to ask.
 pub fn touches(s: Slabs, i: usize, j: usize, k: usize) -> bool
-    requires { BoundedSlabs s × (i ≤ indexMax) × (j ≤ indexMax) × (k ≤ indexMax) }
-    ensures { result ≡ cellHolds s i j k }
+    requires { BoundedSlabs s × (i ≤ index_max) × (j ≤ index_max) × (k ≤ index_max) }
+    ensures { result ≡ cell_holds s i j k }
 {
     let x = integers::from_index(i);
     let y = integers::from_index(j);

@@ -13,21 +13,21 @@ use mathlib.Core.Path.{◌≡◌, refl, sym, ap, ap₂, ◌∙◌}
 use Prim.Native.Nat.{ℕ, suc, ◌+◌, ◌-◌, ◌<◌, ◌≤◌}
 use native.Mathlib.Omega.{arith}
 use lib.ListN.{length, length-append}
-use Rattle.grid.specs.Cells.{xOfCell, yOfCell, zOfCell}
-use Rattle.grid.specs.Grid.{cellCount}
-use Rattle.map.specs.Map.{isFilled}
+use Rattle.grid.specs.Cells.{x_of_cell, y_of_cell, z_of_cell}
+use Rattle.grid.specs.Grid.{cell_count}
+use Rattle.map.specs.Map.{is_filled}
 use Rattle.map.specs.Inner.{NextFilled}
 use Rattle.text.specs.Text.{spliced}
 use Rattle.text.specs.Inner.{Puts}
-use Rattle.text.specs.Lines.{placeLine, lineMost}
+use Rattle.text.specs.Lines.{place_line, line_most}
 use Rattle.text.proofs.Texts.{spliced-none, spliced-more, length-spliced}
 use Rattle.listing.specs.declared.Rest.{Rest}
-use Rattle.listing.specs.Listing.{cellLine, line_of, lines_from, piece_of, usable, partBy, piece, pieceBytes}
+use Rattle.listing.specs.Listing.{cell_line, line_of, lines_from, piece_of, usable, part_by, piece, piece_bytes}
 use Rattle.listing.specs.Inner.{stop_at, Advances}
 use Rattle.listing.proofs.Lines.{lines-add, lines-one, lines_none, stop_step, stop-skip, text_in}
 
 module _ (line : ℕ → List ℕ) (count : ℕ) where
-  pub advance-skip : (from at next : ℕ) (old : List ℕ) → from ≤ next → next ≤ count → at + lineMost ≤ length old
+  pub advance-skip : (from at next : ℕ) (old : List ℕ) → from ≤ next → next ≤ count → at + line_most ≤ length old
       → ((n : ℕ) → from ≤ n → n < next → line n ≡ []) → Advances line count from at old next at old
   advance-skip from at next old forth within room none =
       let k = next - from in
@@ -43,7 +43,7 @@ module _ (line : ℕ → List ℕ) (count : ℕ) where
         stop = sym (ap (stop_at line (length old - at) from) (sym left) ∙ stop-skip line (length old - at) from (count - next) k (omega arith) none' ∙ ap (λ (n : ℕ). stop_at line (length old - at) n (count - next)) ends);
       }
 
-  pub advance-line : (from at behind : ℕ) (old new : List ℕ) → from < count → at + lineMost ≤ length old → length new ≡ length old → behind ≤ length old
+  pub advance-line : (from at behind : ℕ) (old new : List ℕ) → from < count → at + line_most ≤ length old → length new ≡ length old → behind ≤ length old
       → Puts old at (line from) new behind → Advances line count from at old (from + 1) behind new
   advance-line from at behind old new some room same fits puts =
       let single : from + 1 - from ≡ 1 = omega arith in
@@ -86,25 +86,25 @@ module _ (line : ℕ → List ℕ) (count : ℕ) where
 
 -- ---- the lines of a map's cells
 module _ (m : List ℕ) (nx ny : ℕ) where
-  pub no_line : {first end next : ℕ} → NextFilled m first end next → (n : ℕ) → first ≤ n → n < next → cellLine (isFilled m) nx ny n ≡ []
-  unfolding cellLine
+  pub no_line : {first end next : ℕ} → NextFilled m first end next → (n : ℕ) → first ≤ n → n < next → cell_line (is_filled m) nx ny n ≡ []
+  unfolding cell_line
   no_line found n l u = rw (found.skipped n u l)
 
-  pub filled-line : (n : ℕ) → isFilled m n ≡ true → placeLine (xOfCell nx n) (yOfCell nx ny n) (zOfCell nx ny n) ≡ cellLine (isFilled m) nx ny n
-  unfolding cellLine
+  pub filled-line : (n : ℕ) → is_filled m n ≡ true → place_line (x_of_cell nx n) (y_of_cell nx ny n) (z_of_cell nx ny n) ≡ cell_line (is_filled m) nx ny n
+  unfolding cell_line
   filled-line n e = rw e
 
 pub advance-piece : (m : List ℕ) (r : Rest) {cell at : ℕ} {out new : List ℕ} → usable (length m) r.grid ≡ true
-    → Advances (line_of (isFilled m) r.grid) (cellCount r.grid) r.from 0 out cell at new
+    → Advances (line_of (is_filled m) r.grid) (cell_count r.grid) r.from 0 out cell at new
     → cell ≡ (piece_of m r (length out)).next
-    → (partBy at (record { grid = r.grid; from = cell }) ≡ piece m r out) × (new ≡ pieceBytes m r out)
-unfolding piece pieceBytes
+    → (part_by at (record { grid = r.grid; from = cell }) ≡ piece m r out) × (new ≡ piece_bytes m r out)
+unfolding piece piece_bytes
 advance-piece m r {cell} {at} {out} {new} u p end =
-    let line = line_of (isFilled m) r.grid in
+    let line = line_of (is_filled m) r.grid in
     let text : lines_from line r.from (cell - r.from) ≡ (piece_of m r (length out)).text =
-    ap (λ (n : ℕ). lines_from line r.from (n - r.from)) end ∙ sym (text_in line (length out) r.from (cellCount r.grid - r.from)) in
+    ap (λ (n : ℕ). lines_from line r.from (n - r.from)) end ∙ sym (text_in line (length out) r.from (cell_count r.grid - r.from)) in
     let len : at ≡ length (piece_of m r (length out)).text = omega (arith, p.moved, ap length text) in
     rw u (
-      ap₂ (λ (n k : ℕ). partBy n (record { grid = r.grid; from = k })) len end,
+      ap₂ (λ (n k : ℕ). part_by n (record { grid = r.grid; from = k })) len end,
       p.bytes ∙ ap (spliced out 0) text,
     )

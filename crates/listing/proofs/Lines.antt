@@ -15,8 +15,8 @@ use native.Mathlib.Decide.{dec_lt}
 use native.Mathlib.Omega.{arith}
 use borrow.Author.Tests.{lt-ltb, le-ltb}
 use lib.ListN.{length}
-use Rattle.text.specs.Lines.{lineMost}
-use Rattle.listing.specs.Listing.{lines_from, Lines, linesIn}
+use Rattle.text.specs.Lines.{line_most}
+use Rattle.listing.specs.Listing.{lines_from, Lines, lines_in}
 use Rattle.listing.specs.Inner.{stop_at}
 
 pub lines_same : (f g : ℕ → List ℕ) (from count : ℕ) → ((n : ℕ) → n < from + count → f n ≡ g n) → lines_from f from count ≡ lines_from g from count
@@ -46,27 +46,27 @@ module _ (line : ℕ → List ℕ) where
   lines_none from (suc k) h = rw (lines_none from k (λ n l u. h n l (omega arith)), h (from + k) (omega arith) (omega arith))
 
   -- ---- the lines that fit
-  in-here : (room from count : ℕ) → room < lineMost → linesIn line room from count ≡ record { text = []; next = from }
-  unfolding linesIn
+  in-here : (room from count : ℕ) → room < line_most → lines_in line room from count ≡ record { text = []; next = from }
+  unfolding lines_in
   in-here room from zero h = refl
-  in-here room from (suc count) h = rw (lt-ltb room lineMost h)
+  in-here room from (suc count) h = rw (lt-ltb room line_most h)
 
-  in_step : (room from count : ℕ) → lineMost ≤ room → let others = linesIn line (room - length (line from)) (from + 1) count in
-      linesIn line room from (suc count) ≡ record { text = line from ++ others.text; next = others.next }
-  unfolding linesIn
-  in_step room from count h = rw (le-ltb room lineMost h)
+  in_step : (room from count : ℕ) → line_most ≤ room → let others = lines_in line (room - length (line from)) (from + 1) count in
+      lines_in line room from (suc count) ≡ record { text = line from ++ others.text; next = others.next }
+  unfolding lines_in
+  in_step room from count h = rw (le-ltb room line_most h)
 
-  pub stop-here : (room from count : ℕ) → room < lineMost → stop_at line room from count ≡ from
+  pub stop-here : (room from count : ℕ) → room < line_most → stop_at line room from count ≡ from
   stop-here room from count h = ap (λ (l : Lines). l.next) (in-here room from count h)
 
   pub stop-end : (room from : ℕ) → stop_at line room from 0 ≡ from
-  unfolding linesIn
+  unfolding lines_in
   stop-end room from = refl
 
-  pub stop_step : (room from count : ℕ) → lineMost ≤ room → stop_at line room from (suc count) ≡ stop_at line (room - length (line from)) (from + 1) count
+  pub stop_step : (room from count : ℕ) → line_most ≤ room → stop_at line room from (suc count) ≡ stop_at line (room - length (line from)) (from + 1) count
   stop_step room from count h = ap (λ (l : Lines). l.next) (in_step room from count h)
 
-  pub stop-skip : (room from count k : ℕ) → lineMost ≤ room → ((n : ℕ) → from ≤ n → n < from + k → line n ≡ []) → stop_at line room from (k + count) ≡ stop_at line room (from + k) count
+  pub stop-skip : (room from count k : ℕ) → line_most ≤ room → ((n : ℕ) → from ≤ n → n < from + k → line n ≡ []) → stop_at line room from (k + count) ≡ stop_at line room (from + k) count
   stop-skip room from count zero h none =
       let here : from ≡ from + 0 = omega arith in
       ap (stop_at line room from) (zero-add count) ∙ ap (λ (n : ℕ). stop_at line room n count) here
@@ -81,21 +81,21 @@ module _ (line : ℕ → List ℕ) where
 
   pub stop-forth : (room from count : ℕ) → from ≤ stop_at line room from count
   stop-forth room from zero = rw (stop-end room from) (omega arith)
-  stop-forth room from (suc count) = go (dec_lt room lineMost) (stop-forth (room - length (line from)) (from + 1) count)
+  stop-forth room from (suc count) = go (dec_lt room line_most) (stop-forth (room - length (line from)) (from + 1) count)
     where
-      go : Dec (room < lineMost) → from + 1 ≤ stop_at line (room - length (line from)) (from + 1) count → from ≤ stop_at line room from (suc count)
+      go : Dec (room < line_most) → from + 1 ≤ stop_at line (room - length (line from)) (from + 1) count → from ≤ stop_at line room from (suc count)
       go (yes l) ih = rw (stop-here room from (suc count) l) (omega arith)
       go (no l) ih = rw (stop_step room from count (omega arith)) (omega arith)
 
   pub stop-most : (room from count : ℕ) → stop_at line room from count ≤ from + count
   stop-most room from zero = rw (stop-end room from) (omega arith)
-  stop-most room from (suc count) = go (dec_lt room lineMost) (stop-most (room - length (line from)) (from + 1) count)
+  stop-most room from (suc count) = go (dec_lt room line_most) (stop-most (room - length (line from)) (from + 1) count)
     where
-      go : Dec (room < lineMost) → stop_at line (room - length (line from)) (from + 1) count ≤ from + 1 + count → stop_at line room from (suc count) ≤ from + suc count
+      go : Dec (room < line_most) → stop_at line (room - length (line from)) (from + 1) count ≤ from + 1 + count → stop_at line room from (suc count) ≤ from + suc count
       go (yes l) ih = rw (stop-here room from (suc count) l) (omega arith)
       go (no l) ih = rw (stop_step room from count (omega arith)) (omega arith)
 
-  pub stop-more : (room from count : ℕ) → lineMost ≤ room → 0 < count → from < stop_at line room from count
+  pub stop-more : (room from count : ℕ) → line_most ≤ room → 0 < count → from < stop_at line room from count
   stop-more room from zero h some = absurd (omega arith)
   stop-more room from (suc count) h some = rw (stop_step room from count h) (omega (arith, stop-forth (room - length (line from)) (from + 1) count))
 
@@ -103,15 +103,15 @@ module _ (line : ℕ → List ℕ) where
   abbrev Reaches : ℕ → Lines → Type 0
   Reaches from l = l.text ≡ lines_from line from (l.next - from)
 
-  pub text_in : (room from count : ℕ) → Reaches from (linesIn line room from count)
-  unfolding lines_from linesIn
+  pub text_in : (room from count : ℕ) → Reaches from (lines_in line room from count)
+  unfolding lines_from lines_in
   text_in room from zero = let none : 0 ≡ from - from = omega arith in ap (lines_from line from) none
-  text_in room from (suc count) = go (dec_lt room lineMost) (text_in (room - length (line from)) (from + 1) count)
+  text_in room from (suc count) = go (dec_lt room line_most) (text_in (room - length (line from)) (from + 1) count)
     where
       others : Lines
-      others = linesIn line (room - length (line from)) (from + 1) count
+      others = lines_in line (room - length (line from)) (from + 1) count
 
-      go : Dec (room < lineMost) → Reaches (from + 1) others → Reaches from (linesIn line room from (suc count))
+      go : Dec (room < line_most) → Reaches (from + 1) others → Reaches from (lines_in line room from (suc count))
       go (yes l) ih = let none : 0 ≡ from - from = omega arith in subst (Reaches from) (sym (in-here room from (suc count) l)) (ap (lines_from line from) none)
       go (no l) ih =
           let behind = others.next - (from + 1) in

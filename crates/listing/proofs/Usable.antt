@@ -11,10 +11,10 @@ use native.Mathlib.Nat.{mul-le-mul, mul-le-mul_left}
 use borrow.Author.Tests.{leb-true}
 use lib.Dec.{leb}
 use Rattle.grid.specs.declared.Grid.{Grid}
-use Rattle.grid.specs.Grid.{cellCount}
+use Rattle.grid.specs.Grid.{cell_count}
 use Rattle.grid.specs.Usable.{OneTo64}
-use Rattle.map.specs.Map.{mapLength}
-use Rattle.listing.specs.Listing.{sideFits, usable}
+use Rattle.map.specs.Map.{map_length}
+use Rattle.listing.specs.Listing.{side_fits, usable}
 
 and_left : (p q : Bool) → (p && q) ≡ true → p ≡ true
 and_left true q e = refl
@@ -24,26 +24,26 @@ and_right : (p q : Bool) → (p && q) ≡ true → q ≡ true
 and_right true q e = e
 and_right false q e = cc
 
-pub side : (n : ℕ) → sideFits n ≡ true → OneTo64 n
+pub side : (n : ℕ) → side_fits n ≡ true → OneTo64 n
 side n e = record { some = leb-true 1 n (and_left (leb 1 n) (leb n 64) e); most = leb-true n 64 (and_right (leb 1 n) (leb n 64) e) }
 
 module _ (len : ℕ) (g : Grid) (e : usable len g ≡ true) where
-  pub usable-grid : OneTo64 g.nx × OneTo64 g.ny × OneTo64 g.nz × (mapLength (cellCount g) ≤ len)
+  pub usable-grid : OneTo64 g.nx × OneTo64 g.ny × OneTo64 g.nz × (map_length (cell_count g) ≤ len)
   unfolding usable
   usable-grid =
-      let fits = leb (mapLength (cellCount g)) len in
-      let zs = sideFits g.nz && fits in
-      let ys = sideFits g.ny && zs in
-      let e1 = and_right (sideFits g.nx) ys e in
-      let e2 = and_right (sideFits g.ny) zs e1 in (
-        side g.nx (and_left (sideFits g.nx) ys e),
-        side g.ny (and_left (sideFits g.ny) zs e1),
-        side g.nz (and_left (sideFits g.nz) fits e2),
-        leb-true (mapLength (cellCount g)) len (and_right (sideFits g.nz) fits e2),
+      let fits = leb (map_length (cell_count g)) len in
+      let zs = side_fits g.nz && fits in
+      let ys = side_fits g.ny && zs in
+      let e1 = and_right (side_fits g.nx) ys e in
+      let e2 = and_right (side_fits g.ny) zs e1 in (
+        side g.nx (and_left (side_fits g.nx) ys e),
+        side g.ny (and_left (side_fits g.ny) zs e1),
+        side g.nz (and_left (side_fits g.nz) fits e2),
+        leb-true (map_length (cell_count g)) len (and_right (side_fits g.nz) fits e2),
       )
 
-  pub most-layers : cellCount g ≤ g.nx * g.ny * 64
+  pub most-layers : cell_count g ≤ g.nx * g.ny * 64
   most-layers = mul-le-mul_left (g.nx * g.ny) usable-grid.2.most
 
-  pub most-cells : cellCount g ≤ 64 * 64 * 64
+  pub most-cells : cell_count g ≤ 64 * 64 * 64
   most-cells = let (x, y, z, room) = usable-grid in mul-le-mul (mul-le-mul x.most y.most) z.most

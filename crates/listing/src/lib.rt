@@ -1,14 +1,14 @@
 // The listing of a file's map as text: the first line, then the lines of the filled cells, piece by piece, into bytes
 // that the caller lends.
 ghost use Rattle.std.specs.Prelude.{true, ◌≡◌, ◌+◌, ◌-◌, ◌*◌, ◌<◌, ◌≤◌, length};
-ghost use Rattle.refusal.specs.Limit.{refusalOf, gives};
-ghost use Rattle.grid.specs.Grid.{cellCount};
+ghost use Rattle.refusal.specs.Limit.{refusal_of, gives};
+ghost use Rattle.grid.specs.Grid.{cell_count};
 ghost use Rattle.grid.specs.Usable.{OneTo64};
-ghost use Rattle.map.specs.Map.{isFilled};
+ghost use Rattle.map.specs.Map.{is_filled};
 ghost use Rattle.frame.specs.Questions.{checked};
 ghost use Rattle.text.specs.Text.{spliced};
-ghost use Rattle.text.specs.Lines.{lineMost};
-ghost use Rattle.listing.specs.Listing.{cellLine, line_of, saidBegun, begun, begunMap, begunBytes, refusalText, sideFits, usable, saidPiece, piece, pieceBytes};
+ghost use Rattle.text.specs.Lines.{line_most};
+ghost use Rattle.listing.specs.Listing.{cell_line, line_of, said_begun, begun, begun_map, begun_bytes, refusal_text, side_fits, usable, said_piece, piece, piece_bytes};
 ghost use Rattle.listing.specs.Inner.{stop_at, Advances};
 
 use fill::Filling;
@@ -56,7 +56,7 @@ struct Place {
 // Puts questions 1 to 8, and asks for 64 bytes of output, which every first line fits. Then fills the map from the file,
 // and puts the first line at the start of the output.
 pub fn begin(file: &[u8], map: &mut [u8], out: &mut [u8]) -> Begun
-    ensures { (saidBegun result ≡ begun file.now map.old out.old) × (map.new ≡ begunMap file.now map.old out.old) × (out.new ≡ begunBytes file.now map.old out.old) }
+    ensures { (said_begun result ≡ begun file.now map.old out.old) × (map.new ≡ begun_map file.now map.old out.old) × (out.new ≡ begun_bytes file.now map.old out.old) }
 {
     match frame::check(file) {
         Checked::Refused(limit) => Begun::Refused(limit),
@@ -67,7 +67,7 @@ pub fn begin(file: &[u8], map: &mut [u8], out: &mut [u8]) -> Begun
 // Question 8, then the output's length. Only behind both is anything changed: the map is filled, and the line put.
 fn begin_accepted(file: &[u8], header: Header, map: &mut [u8], out: &mut [u8]) -> Begun
     requires { checked file.now ≡ gives header }
-    ensures { (saidBegun result ≡ begun file.now map.old out.old) × (map.new ≡ begunMap file.now map.old out.old) × (out.new ≡ begunBytes file.now map.old out.old) }
+    ensures { (said_begun result ≡ begun file.now map.old out.old) × (map.new ≡ begun_map file.now map.old out.old) × (out.new ≡ begun_bytes file.now map.old out.old) }
 {
     let g = header.grid;
     let all = grid::cell_count(g);
@@ -89,7 +89,7 @@ fn begin_accepted(file: &[u8], header: Header, map: &mut [u8], out: &mut [u8]) -
 // Puts the lines of the filled cells from cell `rest.from` on, as long as the output has room for a longest line. Such a
 // line, "63 63 63" and its line feed, has 9 bytes.
 pub fn more(map: &[u8], rest: Rest, out: &mut [u8]) -> Piece
-    ensures { (saidPiece result ≡ piece map.now rest out.old) × (out.new ≡ pieceBytes map.now rest out.old) }
+    ensures { (said_piece result ≡ piece map.now rest out.old) × (out.new ≡ piece_bytes map.now rest out.old) }
 {
     let g = rest.grid;
     if is_usable(map, g) {
@@ -124,7 +124,7 @@ fn is_usable(map: &[u8], g: Grid) -> bool
 
 // Is a side of 1 to 64 cells?
 fn side_fits(n: usize) -> bool
-    ensures { result ≡ sideFits n }
+    ensures { result ≡ side_fits n }
 {
     if n < 1 {
         return false;
@@ -135,7 +135,7 @@ fn side_fits(n: usize) -> bool
 // Puts the lines from cell `from` on, and answers where they end.
 fn put_cells(map: &[u8], g: Grid, from: usize, out: &mut [u8]) -> Place
     requires { usable (length map.now) g ≡ true }
-    ensures { Advances (line_of (isFilled map.now) g) (cellCount g) from 0 out.old result.cell result.at out.new × (result.cell ≡ stop_at (line_of (isFilled map.now) g) (length out.old) from (cellCount g - from)) }
+    ensures { Advances (line_of (is_filled map.now) g) (cell_count g) from 0 out.old result.cell result.at out.new × (result.cell ≡ stop_at (line_of (is_filled map.now) g) (length out.old) from (cell_count g - from)) }
 {
     let all = grid::cell_count(g);
     let nx = g.nx;
@@ -163,8 +163,8 @@ fn put_next(
     out: &mut [u8],
     at: usize,
 ) -> Place
-    requires { OneTo64 nx × OneTo64 ny × (all ≤ nx * ny * 64) × (all ≤ 8 * length map.now) × (cell < all) × (at + lineMost ≤ length out.old) }
-    ensures { Advances (cellLine (isFilled map.now) nx ny) all cell at out.old result.cell result.at out.new × (cell < result.cell) }
+    requires { OneTo64 nx × OneTo64 ny × (all ≤ nx * ny * 64) × (all ≤ 8 * length map.now) × (cell < all) × (at + line_most ≤ length out.old) }
+    ensures { Advances (cell_line (is_filled map.now) nx ny) all cell at out.old result.cell result.at out.new × (cell < result.cell) }
 {
     let n = map::next_filled(map, cell, all);
     if n < all {
@@ -181,7 +181,7 @@ fn put_next(
 // Puts "REFUSED number place" at the start of the output, and answers its length. Where the output has fewer than 64
 // bytes it puts nothing, and answers 0.
 pub fn put_refusal(limit: Limit, out: &mut [u8]) -> usize
-    ensures { (result ≡ length (refusalText (refusalOf limit) out.old)) × (out.new ≡ spliced out.old 0 (refusalText (refusalOf limit) out.old)) }
+    ensures { (result ≡ length (refusal_text (refusal_of limit) out.old)) × (out.new ≡ spliced out.old 0 (refusal_text (refusal_of limit) out.old)) }
 {
     if out.len() < 64 {
         return 0;

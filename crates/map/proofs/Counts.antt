@@ -18,28 +18,28 @@ use lib.Count.{ones, ones_in, ones_step, ones_cat}
 use lib.Dec.{eqb}
 use lib.ListN.{get_or}
 use lib.Pow.{shr-shr}
-use Rattle.map.specs.Map.{isFilled, bit, countBelow}
+use Rattle.map.specs.Map.{is_filled, bit, count_below}
 use Rattle.map.specs.Inner.{OnesOf}
 
-pub count_none : (p : ℕ → Bool) → countBelow p 0 ≡ 0
-unfolding countBelow
+pub count_none : (p : ℕ → Bool) → count_below p 0 ≡ 0
+unfolding count_below
 count_none p = refl
 
-pub count-more : (p : ℕ → Bool) (n : ℕ) → countBelow p (n + 1) ≡ countBelow p n + bit (p n)
-unfolding countBelow
+pub count-more : (p : ℕ → Bool) (n : ℕ) → count_below p (n + 1) ≡ count_below p n + bit (p n)
+unfolding count_below
 count-more p n = rw (add-one n)
 
-pub count_most : (p : ℕ → Bool) (n : ℕ) → countBelow p n ≤ n
-unfolding countBelow
+pub count_most : (p : ℕ → Bool) (n : ℕ) → count_below p n ≤ n
+unfolding count_below
 count_most p zero = omega arith
 count_most p (suc n) = go (p n) (count_most p n)
   where
-    go : (b : Bool) → countBelow p n ≤ n → countBelow p n + bit b ≤ suc n
+    go : (b : Bool) → count_below p n ≤ n → count_below p n + bit b ≤ suc n
     go true h = omega arith
     go false h = omega arith
 
-pub count_same : (p q : ℕ → Bool) (n : ℕ) → ((m : ℕ) → m < n → p m ≡ q m) → countBelow p n ≡ countBelow q n
-unfolding countBelow
+pub count_same : (p q : ℕ → Bool) (n : ℕ) → ((m : ℕ) → m < n → p m ≡ q m) → count_below p n ≡ count_below q n
+unfolding count_below
 count_same p q zero h = refl
 count_same p q (suc n) h = rw (count_same p q n (λ m l. h m (omega arith)), h n (omega arith))
 
@@ -49,8 +49,8 @@ unfolding ones ones_in
 ones-zero = refl
 
 -- A cell's bit.
-cell-bit : (s : List ℕ) (n : ℕ) → bit (isFilled s n) ≡ get_or s (n / 8) 0 / 2 ^ (7 - n % 8) % 2
-unfolding isFilled
+cell-bit : (s : List ℕ) (n : ℕ) → bit (is_filled s n) ≡ get_or s (n / 8) 0 / 2 ^ (7 - n % 8) % 2
+unfolding is_filled
 cell-bit s n = go (get_or s (n / 8) 0 / 2 ^ (7 - n % 8) % 2) (mod-lt (get_or s (n / 8) 0 / 2 ^ (7 - n % 8)) (omega arith))
   where
     go : (x : ℕ) → x < 2 → bit (eqb x 1) ≡ x
@@ -60,23 +60,23 @@ cell-bit s n = go (get_or s (n / 8) 0 / 2 ^ (7 - n % 8) % 2) (mod-lt (get_or s (
 
 module _ (s : List ℕ) (q : ℕ) (small : get_or s q 0 < 256) where
   -- The first i cells of byte q: the ones among its first i bits.
-  part : (i : ℕ) → i ≤ 8 → countBelow (isFilled s) (q * 8 + i) ≡ countBelow (isFilled s) (q * 8) + ones (get_or s q 0 / 2 ^ (8 - i))
+  part : (i : ℕ) → i ≤ 8 → count_below (is_filled s) (q * 8 + i) ≡ count_below (is_filled s) (q * 8) + ones (get_or s q 0 / 2 ^ (8 - i))
   part zero le =
       let none : ones (get_or s q 0 / 2 ^ (8 - zero)) ≡ 0 = ap ones (div-eq_of_lt small) ∙ ones-zero in
-      omega (arith, ap (countBelow (isFilled s)) (add-zero (q * 8)))
+      omega (arith, ap (count_below (is_filled s)) (add-zero (q * 8)))
   part (suc i) le =
       let at : (q * 8 + i) / 8 ≡ q = omega arith in
       let shift : 7 - (q * 8 + i) % 8 ≡ 8 - suc i = omega arith in
       let more : 8 - i ≡ 8 - suc i + 1 = omega arith in
       let next : q * 8 + suc i ≡ q * 8 + i + 1 = omega arith in
-      let cell : bit (isFilled s (q * 8 + i)) ≡ get_or s q 0 / 2 ^ (8 - suc i) % 2 = cell-bit s (q * 8 + i) ∙ rw (at, shift) in
+      let cell : bit (is_filled s (q * 8 + i)) ≡ get_or s q 0 / 2 ^ (8 - suc i) % 2 = cell-bit s (q * 8 + i) ∙ rw (at, shift) in
       let half : get_or s q 0 / 2 ^ (8 - suc i) / 2 ≡ get_or s q 0 / 2 ^ (8 - i) = rw more (shr-shr (get_or s q 0) (8 - suc i) 1) in
-      rw (next, count-more (isFilled s) (q * 8 + i)) (omega (arith, part i (omega arith), ones_step (get_or s q 0 / 2 ^ (8 - suc i)), ap ones half))
+      rw (next, count-more (is_filled s) (q * 8 + i)) (omega (arith, part i (omega arith), ones_step (get_or s q 0 / 2 ^ (8 - suc i)), ap ones half))
 
-  pub count-byte : countBelow (isFilled s) ((q + 1) * 8) ≡ countBelow (isFilled s) (q * 8) + ones (get_or s q 0)
+  pub count-byte : count_below (is_filled s) ((q + 1) * 8) ≡ count_below (is_filled s) (q * 8) + ones (get_or s q 0)
   count-byte =
       let e : (q + 1) * 8 ≡ q * 8 + 8 = omega arith in
-      ap (countBelow (isFilled s)) e ∙ part 8 (omega arith) ∙ ap (λ (x : ℕ). countBelow (isFilled s) (q * 8) + ones x) (div-one (get_or s q 0))
+      ap (count_below (is_filled s)) e ∙ part 8 (omega arith) ∙ ap (λ (x : ℕ). count_below (is_filled s) (q * 8) + ones x) (div-one (get_or s q 0))
 
 -- ---- several bytes as one number
 pub ones-byte : (s : List ℕ) (q : ℕ) {x : ℕ} → (x ≡ get_or s q 0) × (x < 256) → OnesOf s q (q + 1) x

@@ -17,8 +17,8 @@ use lib.Dec.{eqb}
 use lib.ListN.{length, get_or, set, length-set}
 use lib.Pow.{pow_pos, pow-lt, pow-add, shl-shr}
 use lib.Seq.{get_or-set_same, get_or-set_other}
-use Rattle.map.specs.Map.{isFilled}
-use Rattle.map.specs.Inner.{withFilled}
+use Rattle.map.specs.Map.{is_filled}
+use Rattle.map.specs.Inner.{with_filled}
 
 -- Bit j of 2 ^ k is clear for j ≠ k.
 pow-bit : (j k : ℕ) → (j ≡ k → ⊥) → 2 ^ k / 2 ^ j % 2 ≡ 0
@@ -46,12 +46,12 @@ module _ (s : List ℕ) (n : ℕ) (room : n < 8 * length s) where
   abbrev byte : ℕ
   byte = bit_or (get_or s (n / 8) 0) (2 ^ (7 - n % 8))
 
-  same : isFilled (withFilled s n) n ≡ true
-  unfolding isFilled withFilled
+  same : is_filled (with_filled s n) n ≡ true
+  unfolding is_filled with_filled
   same = rw (get_or-set_same s (n / 8) byte 0 (omega arith), bit-same)
 
-  other : (m : ℕ) → (m ≡ n → ⊥) → isFilled (withFilled s n) m ≡ isFilled s m
-  unfolding isFilled withFilled
+  other : (m : ℕ) → (m ≡ n → ⊥) → is_filled (with_filled s n) m ≡ is_filled s m
+  unfolding is_filled with_filled
   other m ne = go (ℕ_discrete (m / 8) (n / 8))
     where
       go : Dec (m / 8 ≡ n / 8) → eqb (get_or (set s (n / 8) byte) (m / 8) 0 / 2 ^ (7 - m % 8) % 2) 1 ≡ eqb (get_or s (m / 8) 0 / 2 ^ (7 - m % 8) % 2) 1
@@ -59,20 +59,20 @@ module _ (s : List ℕ) (n : ℕ) (room : n < 8 * length s) where
           rw (e, get_or-set_same s (n / 8) byte 0 (omega arith), bit-other (get_or s (n / 8) 0) (7 - n % 8) (7 - m % 8) (λ q. ne (omega arith)))
       go (no e) = rw (get_or-set_other s (n / 8) (m / 8) byte 0 e)
 
-  pub filled-with : (m : ℕ) → isFilled (withFilled s n) m ≡ (eqb m n || isFilled s m)
+  pub filled-with : (m : ℕ) → is_filled (with_filled s n) m ≡ (eqb m n || is_filled s m)
   filled-with m = go (ℕ_discrete m n)
     where
-      go : Dec (m ≡ n) → isFilled (withFilled s n) m ≡ (eqb m n || isFilled s m)
+      go : Dec (m ≡ n) → is_filled (with_filled s n) m ≡ (eqb m n || is_filled s m)
       go (yes e) = rw (eq-eqb m n e, e) same
       go (no e) = rw (ne_eqb m n e) (other m e)
 
-pub length-with : (s : List ℕ) (n : ℕ) → length (withFilled s n) ≡ length s
-unfolding withFilled
+pub length-with : (s : List ℕ) (n : ℕ) → length (with_filled s n) ≡ length s
+unfolding with_filled
 length-with s n = length-set s (n / 8) (bit_or (get_or s (n / 8) 0) (2 ^ (7 - n % 8)))
 
 -- The cells of a byte with no filled cell.
-pub empty-cell : (s : List ℕ) (m n : ℕ) → get_or s (m / 8) 0 ≡ 0 → m ≤ n → n < m / 8 * 8 + 8 → isFilled s n ≡ false
-unfolding isFilled
+pub empty-cell : (s : List ℕ) (m n : ℕ) → get_or s (m / 8) 0 ≡ 0 → m ≤ n → n < m / 8 * 8 + 8 → is_filled s n ≡ false
+unfolding is_filled
 empty-cell s m n e l u =
     let same : n / 8 ≡ m / 8 = omega arith in
     rw (same, e, zero-div (2 ^ (7 - n % 8)))

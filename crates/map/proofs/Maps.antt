@@ -16,7 +16,7 @@ use lib.Pow.{shr-shr}
 use lib.Seq.{ext_get_or, get_or-drop, get_or-append-add}
 use Rattle.bits.specs.Field.{bit_at, field_at}
 use Rattle.bits.proofs.Fields.{byte-field}
-use Rattle.map.specs.Map.{mapLength, isFilled, bit, firstBits, mapByte, tabulate, mapOf}
+use Rattle.map.specs.Map.{map_length, is_filled, bit, first_bits, map_byte, tabulate, map_of}
 
 -- Bytes.
 abbrev pub Bytes : List ℕ → Type 0
@@ -24,8 +24,8 @@ Bytes s = (i : ℕ) → get_or s i 0 < 256
 
 -- ---- equal cells, equal bytes
 -- A cell's bit, as a field of one bit.
-same_bit : (a b : List ℕ) (n : ℕ) → isFilled a n ≡ isFilled b n → bit_at a n ≡ bit_at b n
-unfolding isFilled bit_at
+same_bit : (a b : List ℕ) (n : ℕ) → is_filled a n ≡ is_filled b n → bit_at a n ≡ bit_at b n
+unfolding is_filled bit_at
 same_bit a b n = go (get_or a (n / 8) 0 / 2 ^ (7 - n % 8) % 2) (get_or b (n / 8) 0 / 2 ^ (7 - n % 8) % 2) (mod-lt _ (omega arith)) (mod-lt _ (omega arith))
   where
     go : (x y : ℕ) → x < 2 → y < 2 → eqb x 1 ≡ eqb y 1 → x ≡ y
@@ -37,12 +37,12 @@ same_bit a b n = go (get_or a (n / 8) 0 / 2 ^ (7 - n % 8) % 2) (get_or b (n / 8)
     go (suc zero) (suc (suc y)) h k e = absurd (omega arith)
     go (suc (suc x)) y h k e = absurd (omega arith)
 
-same-field : (a b : List ℕ) → ((n : ℕ) → isFilled a n ≡ isFilled b n) → (p w : ℕ) → field_at a p w ≡ field_at b p w
+same-field : (a b : List ℕ) → ((n : ℕ) → is_filled a n ≡ is_filled b n) → (p w : ℕ) → field_at a p w ≡ field_at b p w
 unfolding field_at
 same-field a b h p zero = refl
 same-field a b h p (suc w) = rw (same-field a b h p w, same_bit a b (p + w) (h (p + w)))
 
-pub same_map : (a b : List ℕ) → Bytes a → Bytes b → length a ≡ length b → ((n : ℕ) → isFilled a n ≡ isFilled b n) → a ≡ b
+pub same_map : (a b : List ℕ) → Bytes a → Bytes b → length a ≡ length b → ((n : ℕ) → is_filled a n ≡ is_filled b n) → a ≡ b
 same_map a b ba bb l h =
     ext_get_or 0 a b l (λ i _. sym (byte-field a i (ba i)) ∙ same-field a b h (i * 8) 8 ∙ byte-field b i (bb i))
 
@@ -71,8 +71,8 @@ bit-back true = refl
 bit-back false = refl
 
 -- A cell is known by its byte.
-pub cell-of-byte : (a b : List ℕ) (n : ℕ) → get_or a (n / 8) 0 ≡ get_or b (n / 8) 0 → isFilled a n ≡ isFilled b n
-unfolding isFilled
+pub cell-of-byte : (a b : List ℕ) (n : ℕ) → get_or a (n / 8) 0 ≡ get_or b (n / 8) 0 → is_filled a n ≡ is_filled b n
+unfolding is_filled
 cell-of-byte a b n e = ap (λ (x : ℕ). eqb (x / 2 ^ (7 - n % 8) % 2) 1) e
 
 bit-lt : (b : Bool) → bit b < 2
@@ -80,82 +80,82 @@ bit-lt true = omega arith
 bit-lt false = omega arith
 
 module _ (p : ℕ → Bool) (q : ℕ) where
-  bits-lt : (w : ℕ) → firstBits p q w < 2 ^ w
-  unfolding firstBits
+  bits-lt : (w : ℕ) → first_bits p q w < 2 ^ w
+  unfolding first_bits
   bits-lt zero = omega arith
   bits-lt (suc w) = omega (arith, bits-lt w, bit-lt (p (q * 8 + w)), pow-suc 2 w)
 
   -- Bit j, with r bits behind it.
-  bit-of : (j r : ℕ) → firstBits p q (suc j + r) / 2 ^ r % 2 ≡ bit (p (q * 8 + j))
-  unfolding firstBits
-  bit-of j zero = rw (add-zero (suc j), div-one (firstBits p q (suc j))) (omega (arith, bit-lt (p (q * 8 + j))))
+  bit-of : (j r : ℕ) → first_bits p q (suc j + r) / 2 ^ r % 2 ≡ bit (p (q * 8 + j))
+  unfolding first_bits
+  bit-of j zero = rw (add-zero (suc j), div-one (first_bits p q (suc j))) (omega (arith, bit-lt (p (q * 8 + j))))
   bit-of j (suc r) =
-      let half : (firstBits p q (suc j + r) * 2 + bit (p (q * 8 + (suc j + r)))) / 2 ≡ firstBits p q (suc j + r) = omega (arith, bit-lt (p (q * 8 + (suc j + r)))) in
+      let half : (first_bits p q (suc j + r) * 2 + bit (p (q * 8 + (suc j + r)))) / 2 ≡ first_bits p q (suc j + r) = omega (arith, bit-lt (p (q * 8 + (suc j + r)))) in
       let more : suc r ≡ 1 + r = omega arith in
-      rw (add-suc (suc j) r, more, ← shr-shr (firstBits p q (suc (suc j + r))) 1 r, half) (bit-of j r)
+      rw (add-suc (suc j) r, more, ← shr-shr (first_bits p q (suc (suc j + r))) 1 r, half) (bit-of j r)
 
   -- The bits of the byte are the property's.
-  byte-bit : (n : ℕ) → n / 8 ≡ q → eqb (mapByte p q / 2 ^ (7 - n % 8) % 2) 1 ≡ p n
+  byte-bit : (n : ℕ) → n / 8 ≡ q → eqb (map_byte p q / 2 ^ (7 - n % 8) % 2) 1 ≡ p n
   byte-bit n e =
       let whole : 8 ≡ suc (n % 8) + (7 - n % 8) = omega arith in
       let here : q * 8 + n % 8 ≡ n = omega arith in
-      let read : firstBits p q 8 / 2 ^ (7 - n % 8) % 2 ≡ bit (p n) =
-      ap (λ (w : ℕ). firstBits p q w / 2 ^ (7 - n % 8) % 2) whole ∙ bit-of (n % 8) (7 - n % 8) ∙ ap (λ (m : ℕ). bit (p m)) here in
+      let read : first_bits p q 8 / 2 ^ (7 - n % 8) % 2 ≡ bit (p n) =
+      ap (λ (w : ℕ). first_bits p q w / 2 ^ (7 - n % 8) % 2) whole ∙ bit-of (n % 8) (7 - n % 8) ∙ ap (λ (m : ℕ). bit (p m)) here in
       ap (λ (x : ℕ). eqb x 1) read ∙ bit-back (p n)
 
 -- ---- the map of a property, with bytes behind it
 module _ (p : ℕ → Bool) (cells : ℕ) where
-  pub length-map : length (mapOf p cells) ≡ mapLength cells
-  unfolding mapOf
-  length-map = length-tabulate (mapByte (λ n. ltb n cells && p n)) (mapLength cells)
+  pub length-map : length (map_of p cells) ≡ map_length cells
+  unfolding map_of
+  length-map = length-tabulate (map_byte (λ n. ltb n cells && p n)) (map_length cells)
 
-  map_at : (i : ℕ) → i < mapLength cells → get_or (mapOf p cells) i 0 ≡ mapByte (λ n. ltb n cells && p n) i
-  unfolding mapOf
-  map_at i h = get_d_tabulate (mapByte (λ n. ltb n cells && p n)) (mapLength cells) i 0 h
+  map_at : (i : ℕ) → i < map_length cells → get_or (map_of p cells) i 0 ≡ map_byte (λ n. ltb n cells && p n) i
+  unfolding map_of
+  map_at i h = get_d_tabulate (map_byte (λ n. ltb n cells && p n)) (map_length cells) i 0 h
 
   module _ (b : List ℕ) where
-    front : (i : ℕ) → i < mapLength cells → get_or (mapOf p cells ++ b) i 0 ≡ mapByte (λ n. ltb n cells && p n) i
-    front i h = get_or-append (mapOf p cells) b 0 i (rw length-map h) ∙ map_at i h
+    front : (i : ℕ) → i < map_length cells → get_or (map_of p cells ++ b) i 0 ≡ map_byte (λ n. ltb n cells && p n) i
+    front i h = get_or-append (map_of p cells) b 0 i (rw length-map h) ∙ map_at i h
 
-    back : (i : ℕ) → mapLength cells ≤ i → get_or (mapOf p cells ++ b) i 0 ≡ get_or b (i - mapLength cells) 0
+    back : (i : ℕ) → map_length cells ≤ i → get_or (map_of p cells ++ b) i 0 ≡ get_or b (i - map_length cells) 0
     back i h =
-        let e : i ≡ length (mapOf p cells) + (i - mapLength cells) = omega (arith, length-map) in
-        ap (λ (k : ℕ). get_or (mapOf p cells ++ b) k 0) e ∙ get_or-append-add (mapOf p cells) b (i - mapLength cells) 0
+        let e : i ≡ length (map_of p cells) + (i - map_length cells) = omega (arith, length-map) in
+        ap (λ (k : ℕ). get_or (map_of p cells ++ b) k 0) e ∙ get_or-append-add (map_of p cells) b (i - map_length cells) 0
 
     -- A cell of the map is filled exactly where it is a cell of the grid and has the property.
-    pub filled-map : (n : ℕ) → n < 8 * mapLength cells → isFilled (mapOf p cells ++ b) n ≡ (ltb n cells && p n)
-    unfolding isFilled
+    pub filled-map : (n : ℕ) → n < 8 * map_length cells → is_filled (map_of p cells ++ b) n ≡ (ltb n cells && p n)
+    unfolding is_filled
     filled-map n h = rw (front (n / 8) (omega arith)) (byte-bit (λ m. ltb m cells && p m) (n / 8) n refl)
 
-    pub bytes-map : Bytes b → Bytes (mapOf p cells ++ b)
-    bytes-map h i = go (dec_lt i (mapLength cells))
+    pub bytes-map : Bytes b → Bytes (map_of p cells ++ b)
+    bytes-map h i = go (dec_lt i (map_length cells))
       where
-        go : Dec (i < mapLength cells) → get_or (mapOf p cells ++ b) i 0 < 256
+        go : Dec (i < map_length cells) → get_or (map_of p cells ++ b) i 0 < 256
         go (yes l) = rw (front i l) (bits-lt (λ n. ltb n cells && p n) i 8)
-        go (no l) = rw (back i (omega arith)) (h (i - mapLength cells))
+        go (no l) = rw (back i (omega arith)) (h (i - map_length cells))
 
   -- Bytes that are as long as the old ones, hold the property in the map's cells, and are the old ones behind the map.
-  pub map_is : (old new : List ℕ) → Bytes old → Bytes new → length new ≡ length old → mapLength cells ≤ length old
-      → ((n : ℕ) → n < 8 * mapLength cells → isFilled new n ≡ (ltb n cells && p n))
-      → ((n : ℕ) → 8 * mapLength cells ≤ n → isFilled new n ≡ isFilled old n)
-      → new ≡ mapOf p cells ++ drop (mapLength cells) old
+  pub map_is : (old new : List ℕ) → Bytes old → Bytes new → length new ≡ length old → map_length cells ≤ length old
+      → ((n : ℕ) → n < 8 * map_length cells → is_filled new n ≡ (ltb n cells && p n))
+      → ((n : ℕ) → 8 * map_length cells ≤ n → is_filled new n ≡ is_filled old n)
+      → new ≡ map_of p cells ++ drop (map_length cells) old
   map_is old new bo bn same room inside behind =
-      same_map new (mapOf p cells ++ rest) bn (bytes-map rest (λ i. rw (get_or-drop (mapLength cells) old i 0) (bo (mapLength cells + i))))
-      (same ∙ sym (length-append (mapOf p cells) rest ∙ omega (arith, length-map, length-drop (mapLength cells) old)))
-      (λ n. go n (dec_lt n (8 * mapLength cells)))
+      same_map new (map_of p cells ++ rest) bn (bytes-map rest (λ i. rw (get_or-drop (map_length cells) old i 0) (bo (map_length cells + i))))
+      (same ∙ sym (length-append (map_of p cells) rest ∙ omega (arith, length-map, length-drop (map_length cells) old)))
+      (λ n. go n (dec_lt n (8 * map_length cells)))
     where
       rest : List ℕ
-      rest = drop (mapLength cells) old
+      rest = drop (map_length cells) old
 
-      same_byte : (i : ℕ) → mapLength cells ≤ i → get_or (mapOf p cells ++ rest) i 0 ≡ get_or old i 0
+      same_byte : (i : ℕ) → map_length cells ≤ i → get_or (map_of p cells ++ rest) i 0 ≡ get_or old i 0
       same_byte i h =
-          let e : mapLength cells + (i - mapLength cells) ≡ i = omega arith in
-          back rest i h ∙ get_or-drop (mapLength cells) old (i - mapLength cells) 0 ∙ ap (λ (k : ℕ). get_or old k 0) e
+          let e : map_length cells + (i - map_length cells) ≡ i = omega arith in
+          back rest i h ∙ get_or-drop (map_length cells) old (i - map_length cells) 0 ∙ ap (λ (k : ℕ). get_or old k 0) e
 
-      same-cell : (n : ℕ) → 8 * mapLength cells ≤ n → isFilled old n ≡ isFilled (mapOf p cells ++ rest) n
-      same-cell n h = cell-of-byte old (mapOf p cells ++ rest) n (sym (same_byte (n / 8) (omega arith)))
+      same-cell : (n : ℕ) → 8 * map_length cells ≤ n → is_filled old n ≡ is_filled (map_of p cells ++ rest) n
+      same-cell n h = cell-of-byte old (map_of p cells ++ rest) n (sym (same_byte (n / 8) (omega arith)))
 
-      go : (n : ℕ) → Dec (n < 8 * mapLength cells) → isFilled new n ≡ isFilled (mapOf p cells ++ rest) n
+      go : (n : ℕ) → Dec (n < 8 * map_length cells) → is_filled new n ≡ is_filled (map_of p cells ++ rest) n
       go n (yes l) = inside n l ∙ sym (filled-map rest n l)
       go n (no l) = behind n (omega arith) ∙ same-cell n (omega arith)
 
@@ -178,12 +178,12 @@ module _ (len : ℕ) (s : List ℕ) (room : len ≤ length s) where
   pub length-cleared : length cleared ≡ length s
   length-cleared = length-append (zeros len) (drop len s) ∙ omega (arith, length-zeros len, length-drop len s)
 
-  pub cleared-in : (n : ℕ) → n < 8 * len → isFilled cleared n ≡ false
-  unfolding isFilled
+  pub cleared-in : (n : ℕ) → n < 8 * len → is_filled cleared n ≡ false
+  unfolding is_filled
   cleared-in n h =
       rw (get_or-append (zeros len) (drop len s) 0 (n / 8) (rw (length-zeros len) (omega arith)), zeros-at len (n / 8), zero-div (2 ^ (7 - n % 8)))
 
-  pub cleared-behind : (n : ℕ) → 8 * len ≤ n → isFilled cleared n ≡ isFilled s n
+  pub cleared-behind : (n : ℕ) → 8 * len ≤ n → is_filled cleared n ≡ is_filled s n
   cleared-behind n h =
       let k = n / 8 - len in
       let at : n / 8 ≡ length (zeros len) + k = omega (arith, length-zeros len) in

@@ -1,12 +1,12 @@
 // The map of a grid's cells (an occupancy grid), one bit a cell, in bytes that the caller lends.
 ghost use Rattle.std.specs.Prelude.{◌≡◌, ◌++◌, ◌+◌, ◌*◌, ◌<◌, ◌≤◌, ◌^◌, length, drop, get_or, replicate};
-ghost use Rattle.map.specs.Map.{mapLength, isFilled, countBelow};
-ghost use Rattle.map.specs.Inner.{NextFilled, withFilled, OnesOf};
+ghost use Rattle.map.specs.Map.{map_length, is_filled, count_below};
+ghost use Rattle.map.specs.Inner.{NextFilled, with_filled, OnesOf};
 
 // How many bytes the map of so many cells takes.
 pub fn map_length(cells: usize) -> usize
     requires { cells ≤ 262144 }
-    ensures { result ≡ mapLength cells }
+    ensures { result ≡ map_length cells }
 {
     (cells + 7) / 8
 }
@@ -14,7 +14,7 @@ pub fn map_length(cells: usize) -> usize
 // Whether cell n is filled. The byte is widened: a shift of a whole word is the quicker one.
 pub fn is_filled(map: &[u8], n: usize) -> bool
     requires { n < 8 * length map.now }
-    ensures { result ≡ isFilled map.now n }
+    ensures { result ≡ is_filled map.now n }
 {
     let byte = map[n / 8] as usize;
     (byte >> (7 - n % 8)) % 2 == 1
@@ -46,7 +46,7 @@ pub fn next_filled(map: &[u8], first: usize, end: usize) -> usize
 // Fills cell n.
 pub fn fill_cell(map: &mut [u8], n: usize)
     requires { n < 8 * length map.old }
-    ensures { map.new ≡ withFilled map.old n }
+    ensures { map.new ≡ with_filled map.old n }
 {
     let q = n / 8;
     let byte = map[q];
@@ -68,7 +68,7 @@ pub fn clear(map: &mut [u8], len: usize)
 // How many of the first `cells` cells are filled: whole bytes at once, then the cells of the last byte.
 pub fn count(map: &[u8], cells: usize) -> usize
     requires { cells ≤ 8 * length map.now }
-    ensures { result ≡ countBelow (isFilled map.now) cells }
+    ensures { result ≡ count_below (is_filled map.now) cells }
 {
     let whole = cells / 8;
     let mut sum = count_bytes(map, whole);
@@ -85,7 +85,7 @@ pub fn count(map: &[u8], cells: usize) -> usize
 // How many cells of the first `len` bytes are filled: eight bytes at a time, then the bytes behind them.
 fn count_bytes(map: &[u8], len: usize) -> usize
     requires { (len ≤ length map.now) × (len * 8 < 2 ^ 64) }
-    ensures { (result ≡ countBelow (isFilled map.now) (len * 8)) × (result ≤ len * 8) }
+    ensures { (result ≡ count_below (is_filled map.now) (len * 8)) × (result ≤ len * 8) }
 {
     let mut sum: usize = 0;
     let mut i = 0;

@@ -18,7 +18,7 @@ use lib.Seq.{drop-cons, drop-drop}
 use Rattle.parse.specs.declared.Word.{Word}
 use Rattle.parse.specs.declared.Word.TheVariants.{Number, NoNumber}
 use Rattle.number_list.specs.Numbers.{Reading, number, wrong, end, number_of, said, ended, reading}
-use Rattle.number_list.specs.Inner.{isWord, wordLength, lineLength}
+use Rattle.number_list.specs.Inner.{is_word, word_length, line_length}
 use Rattle.number_list.proofs.Runs.{word_more}
 
 -- ---- at one character
@@ -44,44 +44,44 @@ module _ (line : ℕ) (word : List ℕ) (c : ℕ) (cs : List ℕ) where
   in-word e f g = rw (e, f, g) refl
 
 -- ---- inside a comment
-comment-step : (line c : ℕ) (cs : List ℕ) (b : Bool) → eqb c 10 ≡ b → reading true line [] cs ≡ reading false line [] (drop (lineLength cs) cs) → reading true line [] (c ∷ cs) ≡ reading false line [] (drop (lineLength (c ∷ cs)) (c ∷ cs))
-unfolding lineLength
+comment-step : (line c : ℕ) (cs : List ℕ) (b : Bool) → eqb c 10 ≡ b → reading true line [] cs ≡ reading false line [] (drop (line_length cs) cs) → reading true line [] (c ∷ cs) ≡ reading false line [] (drop (line_length (c ∷ cs)) (c ∷ cs))
+unfolding line_length
 comment-step line c cs true e ih = rw e (at-feed line [] c cs true e ∙ sym (at-feed line [] c cs false e))
 comment-step line c cs false e ih = rw e (in-comment line [] c cs e ∙ ih)
 
 -- A comment says what is said from the end of its line on.
-comment : (line : ℕ) (s : List ℕ) → reading true line [] s ≡ reading false line [] (drop (lineLength s) s)
-unfolding reading lineLength
+comment : (line : ℕ) (s : List ℕ) → reading true line [] s ≡ reading false line [] (drop (line_length s) s)
+unfolding reading line_length
 comment line [] = refl
 comment line (c ∷ cs) = comment-step line c cs (eqb c 10) refl (comment line cs)
 
 -- ---- inside a word
 -- Characters that may go on say what they say with the rest of their word, and what is said behind it.
 abbrev Goes : (line : ℕ) (word s : List ℕ) → Type 0
-Goes line word s = reading false line word s ≡ ended line (word ++ take (wordLength s) s) (reading false line [] (drop (wordLength s) s))
+Goes line word s = reading false line word s ≡ ended line (word ++ take (word_length s) s) (reading false line [] (drop (word_length s) s))
 
-stops : (line : ℕ) (word s : List ℕ) (behind : Reading) → wordLength s ≡ 0 → ((w : List ℕ) → reading false line w s ≡ ended line w behind) → Goes line word s
+stops : (line : ℕ) (word s : List ℕ) (behind : Reading) → word_length s ≡ 0 → ((w : List ℕ) → reading false line w s ≡ ended line w behind) → Goes line word s
 stops line word s behind z p = p word ∙ ap (ended line word) (sym (p [])) ∙ rw (z, append-nil word) refl
 
 module _ (line : ℕ) (word : List ℕ) (c : ℕ) (cs : List ℕ) where
-  no_word : isWord c ≡ false → wordLength (c ∷ cs) ≡ 0
-  unfolding wordLength
+  no_word : is_word c ≡ false → word_length (c ∷ cs) ≡ 0
+  unfolding word_length
   no_word e = rw e refl
 
-  one_more : isWord c ≡ true → wordLength (c ∷ cs) ≡ suc (wordLength cs)
-  unfolding wordLength
+  one_more : is_word c ≡ true → word_length (c ∷ cs) ≡ suc (word_length cs)
+  unfolding word_length
   one_more e = rw e refl
 
   word-step : (p q r : Bool) → eqb c 10 ≡ p → eqb c 35 ≡ q → eqb c 32 ≡ r → Goes line (word ++ (c ∷ [])) cs → Goes line word (c ∷ cs)
-  unfolding isWord
+  unfolding is_word
   word-step true q r e f g ih = stops line word (c ∷ cs) _ (no_word (rw e refl)) (λ w. at-feed line w c cs false e)
   word-step false true r e f g ih = stops line word (c ∷ cs) _ (no_word (rw (e, f) refl)) (λ w. at-hash line w c cs e f)
   word-step false false true e f g ih = stops line word (c ∷ cs) _ (no_word (rw (e, f, g) refl)) (λ w. at-space line w c cs e f g)
   word-step false false false e f g ih =
-      in-word line word c cs e f g ∙ ih ∙ rw (one_more (rw (e, f, g) refl), append_assoc word (c ∷ []) (take (wordLength cs) cs)) refl
+      in-word line word c cs e f g ∙ ih ∙ rw (one_more (rw (e, f, g) refl), append_assoc word (c ∷ []) (take (word_length cs) cs)) refl
 
 goes : (line : ℕ) (word s : List ℕ) → Goes line word s
-unfolding reading wordLength
+unfolding reading word_length
 goes line word [] = rw (append-nil word) refl
 goes line word (c ∷ cs) = word-step line word c cs (eqb c 10) (eqb c 35) (eqb c 32) refl refl refl (goes line (word ++ (c ∷ [])) cs)
 
@@ -108,23 +108,23 @@ module _ (line : ℕ) (s : List ℕ) (i : ℕ) (h : i < length s) where
   opened : get_or s i 0 ≡ 35 → reading false line [] (drop i s) ≡ reading true line [] (drop i s)
   opened e = here false ∙ at-hash line [] (get_or s i 0) (drop (suc i) s) (test 10 e) (test 35 e) ∙ sym (in-comment line [] (get_or s i 0) (drop (suc i) s) (test 10 e)) ∙ sym (here true)
 
-  pub hash : {end : ℕ} → get_or s i 0 ≡ 35 → end ≡ i + lineLength (drop i s) → reading false line [] (drop i s) ≡ reading false line [] (drop end s)
-  hash {end} e p = opened e ∙ comment line (drop i s) ∙ ap (reading false line []) (drop-drop (lineLength (drop i s)) i s ∙ ap (λ (k : ℕ). drop k s) (sym p))
+  pub hash : {end : ℕ} → get_or s i 0 ≡ 35 → end ≡ i + line_length (drop i s) → reading false line [] (drop i s) ≡ reading false line [] (drop end s)
+  hash {end} e p = opened e ∙ comment line (drop i s) ∙ ap (reading false line []) (drop-drop (line_length (drop i s)) i s ∙ ap (λ (k : ℕ). drop k s) (sym p))
 
-  word : {end : ℕ} → isWord (get_or s i 0) ≡ true → end ≡ i + wordLength (drop i s) → reading false line [] (drop i s) ≡ said line (number_of (take (end - i) (drop i s))) (reading false line [] (drop end s))
+  word : {end : ℕ} → is_word (get_or s i 0) ≡ true → end ≡ i + word_length (drop i s) → reading false line [] (drop i s) ≡ said line (number_of (take (end - i) (drop i s))) (reading false line [] (drop end s))
   word {end} e p =
       let rest = drop i s in
-      let most : end - i ≡ wordLength rest = omega (arith, p) in
-      let behind = reading false line [] (drop (wordLength rest) rest) in
+      let most : end - i ≡ word_length rest = omega (arith, p) in
+      let behind = reading false line [] (drop (word_length rest) rest) in
       goes line [] rest
-      ∙ some line (wordLength rest) rest behind (omega (arith, word_more s i h e)) (omega (arith, length-drop i s))
+      ∙ some line (word_length rest) rest behind (omega (arith, word_more s i h e)) (omega (arith, length-drop i s))
       ∙ ap (λ (k : ℕ). said line (number_of (take k rest)) behind) (sym most)
-      ∙ ap (λ (l : List ℕ). said line (number_of (take (end - i) rest)) (reading false line [] l)) (drop-drop (wordLength rest) i s ∙ ap (λ (k : ℕ). drop k s) (sym p))
+      ∙ ap (λ (l : List ℕ). said line (number_of (take (end - i) rest)) (reading false line [] l)) (drop-drop (word_length rest) i s ∙ ap (λ (k : ℕ). drop k s) (sym p))
 
-  pub word_number : {end : ℕ} {z : ℤ} → isWord (get_or s i 0) ≡ true → end ≡ i + wordLength (drop i s) → number_of (take (end - i) (drop i s)) ≡ Number z → reading false line [] (drop i s) ≡ number z (reading false line [] (drop end s))
+  pub word_number : {end : ℕ} {z : ℤ} → is_word (get_or s i 0) ≡ true → end ≡ i + word_length (drop i s) → number_of (take (end - i) (drop i s)) ≡ Number z → reading false line [] (drop i s) ≡ number z (reading false line [] (drop end s))
   word_number {end} e p f = word e p ∙ ap (λ (w : Word). said line w (reading false line [] (drop end s))) f
 
-  pub word-wrong : {end : ℕ} → isWord (get_or s i 0) ≡ true → end ≡ i + wordLength (drop i s) → number_of (take (end - i) (drop i s)) ≡ NoNumber → reading false line [] (drop i s) ≡ wrong line
+  pub word-wrong : {end : ℕ} → is_word (get_or s i 0) ≡ true → end ≡ i + word_length (drop i s) → number_of (take (end - i) (drop i s)) ≡ NoNumber → reading false line [] (drop i s) ≡ wrong line
   word-wrong {end} e p f = word e p ∙ ap (λ (w : Word). said line w (reading false line [] (drop end s))) f
 
 pub past : (line : ℕ) (s : List ℕ) (i : ℕ) → length s ≤ i → reading false line [] (drop i s) ≡ end

@@ -18,7 +18,7 @@ use native.Mathlib.Omega.{arith}
 use lib.Dec.{eqb}
 use lib.ListN.{length, get_or, drop, length-drop, drop_of_length-le}
 use lib.Seq.{drop-cons}
-use Rattle.number_list.specs.Inner.{isWord, wordLength, lineLength}
+use Rattle.number_list.specs.Inner.{is_word, word_length, line_length}
 
 most : (b : Bool) {n m : ℕ} → n ≤ m → cond b (suc n) 0 ≤ suc m
 most true h = omega arith
@@ -28,44 +28,44 @@ most-else : (b : Bool) {n m : ℕ} → n ≤ m → cond b 0 (suc n) ≤ suc m
 most-else true h = omega arith
 most-else false h = omega arith
 
-word-within : (s : List ℕ) → wordLength s ≤ length s
-unfolding wordLength
+word-within : (s : List ℕ) → word_length s ≤ length s
+unfolding word_length
 word-within [] = omega arith
-word-within (c ∷ cs) = most (isWord c) (word-within cs)
+word-within (c ∷ cs) = most (is_word c) (word-within cs)
 
-line-within : (s : List ℕ) → lineLength s ≤ length s
-unfolding lineLength
+line-within : (s : List ℕ) → line_length s ≤ length s
+unfolding line_length
 line-within [] = omega arith
 line-within (c ∷ cs) = most-else (eqb c 10) (line-within cs)
 
 module _ (s : List ℕ) (i : ℕ) where
-  pub word-past : length s ≤ i → wordLength (drop i s) ≡ 0
-  unfolding wordLength
-  word-past h = ap wordLength (drop_of_length-le s h)
+  pub word-past : length s ≤ i → word_length (drop i s) ≡ 0
+  unfolding word_length
+  word-past h = ap word_length (drop_of_length-le s h)
 
-  pub line-past : length s ≤ i → lineLength (drop i s) ≡ 0
-  unfolding lineLength
-  line-past h = ap lineLength (drop_of_length-le s h)
+  pub line-past : length s ≤ i → line_length (drop i s) ≡ 0
+  unfolding line_length
+  line-past h = ap line_length (drop_of_length-le s h)
 
 module _ (s : List ℕ) (i : ℕ) (h : i < length s) where
-  pub word_more : isWord (get_or s i 0) ≡ true → wordLength (drop i s) ≡ suc (wordLength (drop (i + 1) s))
-  unfolding wordLength
-  word_more e = ap wordLength (drop-cons s i 0 h) ∙ rw (e, add-one i) refl
+  pub word_more : is_word (get_or s i 0) ≡ true → word_length (drop i s) ≡ suc (word_length (drop (i + 1) s))
+  unfolding word_length
+  word_more e = ap word_length (drop-cons s i 0 h) ∙ rw (e, add-one i) refl
 
-  pub word-stops : isWord (get_or s i 0) ≡ false → wordLength (drop i s) ≡ 0
-  unfolding wordLength
-  word-stops e = ap wordLength (drop-cons s i 0 h) ∙ rw e refl
+  pub word-stops : is_word (get_or s i 0) ≡ false → word_length (drop i s) ≡ 0
+  unfolding word_length
+  word-stops e = ap word_length (drop-cons s i 0 h) ∙ rw e refl
 
-  pub word-most : i + wordLength (drop i s) ≤ length s
+  pub word-most : i + word_length (drop i s) ≤ length s
   word-most = omega (arith, word-within (drop i s), length-drop i s)
 
-  pub line-more : (get_or s i 0 ≡ 10 → ⊥) → lineLength (drop i s) ≡ suc (lineLength (drop (i + 1) s))
-  unfolding lineLength
-  line-more e = ap lineLength (drop-cons s i 0 h) ∙ rw (ne_eqb _ _ e, add-one i) refl
+  pub line-more : (get_or s i 0 ≡ 10 → ⊥) → line_length (drop i s) ≡ suc (line_length (drop (i + 1) s))
+  unfolding line_length
+  line-more e = ap line_length (drop-cons s i 0 h) ∙ rw (ne_eqb _ _ e, add-one i) refl
 
-  pub line-stops : get_or s i 0 ≡ 10 → lineLength (drop i s) ≡ 0
-  unfolding lineLength
-  line-stops e = ap lineLength (drop-cons s i 0 h) ∙ rw (eq-eqb _ _ e) refl
+  pub line-stops : get_or s i 0 ≡ 10 → line_length (drop i s) ≡ 0
+  unfolding line_length
+  line-stops e = ap line_length (drop-cons s i 0 h) ∙ rw (eq-eqb _ _ e) refl
 
-  pub line-most : i + lineLength (drop i s) ≤ length s
+  pub line-most : i + line_length (drop i s) ≤ length s
   line-most = omega (arith, line-within (drop i s), length-drop i s)

@@ -14,32 +14,32 @@ use lib.ListN.{set}
 use lib.Seq.{sets}
 use Rattle.number_list.specs.declared.Listed.{Listed}
 use Rattle.number_list.specs.declared.Listed.TheVariants.{Numbers, Wrong}
-use Rattle.number_list.specs.Numbers.{Reading, number, wrong, end, reading_of, answerFrom, numbersIn, over}
+use Rattle.number_list.specs.Numbers.{Reading, number, wrong, end, reading_of, answer_from, numbers_in, over}
 use Rattle.number_list.proofs.Places.{sets_over}
 
 pub record Left (text : List ℕ) (old : List ℤ) (left : Reading) (n : ℕ) (out : List ℤ) : Type 0 where
-  pub answer : answerFrom n left ≡ answerFrom 0 (reading_of text)
-  pub numbers : sets out n (numbersIn left) ≡ over (numbersIn (reading_of text)) old
+  pub answer : answer_from n left ≡ answer_from 0 (reading_of text)
+  pub numbers : sets out n (numbers_in left) ≡ over (numbers_in (reading_of text)) old
 
 -- what the contract promises
 abbrev Answered : (text : List ℕ) (old : List ℤ) → Listed → List ℤ → Type 0
-Answered text old r out = (r ≡ answerFrom 0 (reading_of text)) × (out ≡ over (numbersIn (reading_of text)) old)
+Answered text old r out = (r ≡ answer_from 0 (reading_of text)) × (out ≡ over (numbers_in (reading_of text)) old)
 
 pub begun : (text : List ℕ) (old : List ℤ) → Left text old (reading_of text) 0 old
-begun text old = record { answer = refl; numbers = sets_over (numbersIn (reading_of text)) old }
+begun text old = record { answer = refl; numbers = sets_over (numbers_in (reading_of text)) old }
 
 module _ {text : List ℕ} {old : List ℤ} {left : Reading} {n : ℕ} {out : List ℤ} (before : Left text old left n out) where
   pub passed : {behind : Reading} → left ≡ behind → Left text old behind n out
   passed e = subst (λ (r : Reading). Left text old r n out) e before
 
   pub taken : {behind : Reading} {z : ℤ} {put : List ℤ} → left ≡ number z behind → put ≡ set out n z → Left text old behind (n + 1) put
-  unfolding answerFrom numbersIn
+  unfolding answer_from numbers_in
   taken e p = let b = passed e in rw (p, add-one n) (record { answer = b.answer; numbers = b.numbers })
 
   pub stopped : {line : ℕ} → left ≡ wrong line → Answered text old (Wrong line) out
-  unfolding answerFrom numbersIn
+  unfolding answer_from numbers_in
   stopped e = let b = passed e in (b.answer, b.numbers)
 
   pub done : left ≡ end → Answered text old (Numbers n) out
-  unfolding answerFrom numbersIn
+  unfolding answer_from numbers_in
   done e = let b = passed e in (b.answer, b.numbers)

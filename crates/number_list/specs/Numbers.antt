@@ -54,16 +54,16 @@ reading_of text = reading false 1 [] text
 
 -- ---- what is answered
 -- The line of the wrong word, or how many numbers there are, behind n others.
-unfoldable pub answerFrom : ℕ → Reading → Listed
-answerFrom n (number z behind) = answerFrom (suc n) behind
-answerFrom n (wrong line) = Wrong line
-answerFrom n end = Numbers n
+unfoldable pub answer_from : ℕ → Reading → Listed
+answer_from n (number z behind) = answer_from (suc n) behind
+answer_from n (wrong line) = Wrong line
+answer_from n end = Numbers n
 
 -- The numbers up to the first wrong word.
-unfoldable pub numbersIn : Reading → List ℤ
-numbersIn (number z behind) = z ∷ numbersIn behind
-numbersIn (wrong line) = []
-numbersIn end = []
+unfoldable pub numbers_in : Reading → List ℤ
+numbers_in (number z behind) = z ∷ numbers_in behind
+numbers_in (wrong line) = []
+numbers_in end = []
 
 -- Numbers over the start of others, as far as there is room; those behind them stay.
 abbrev pub over : (new old : List ℤ) → List ℤ

@@ -1,7 +1,7 @@
 // A list of numbers, from text: numbers in base ten, parted by spaces, line feeds and comments.
 ghost use Rattle.std.specs.Prelude.{true, ◌≡◌, ◌+◌, drop, set};
-ghost use Rattle.number_list.specs.Numbers.{fits, held, number_of, reading_of, answerFrom, numbersIn, over};
-ghost use Rattle.number_list.specs.Inner.{isWord, wordLength, lineLength};
+ghost use Rattle.number_list.specs.Numbers.{fits, held, number_of, reading_of, answer_from, numbers_in, over};
+ghost use Rattle.number_list.specs.Inner.{is_word, word_length, line_length};
 
 use parse::Word;
 
@@ -14,8 +14,8 @@ pub enum Listed {
 
 // Reads the numbers of a text, up to the first wrong word, into the start of `out`. Those beyond its end are only counted.
 pub fn read_list(text: &[u8], out: &mut [i32]) -> Listed
-    ensures answer { result ≡ answerFrom 0 (reading_of text.now) }
-    ensures numbers { out.new ≡ over (numbersIn (reading_of text.now)) out.old }
+    ensures answer { result ≡ answer_from 0 (reading_of text.now) }
+    ensures numbers { out.new ≡ over (numbers_in (reading_of text.now)) out.old }
 {
     let mut feeds: usize = 0;
     let mut n: usize = 0;
@@ -50,7 +50,7 @@ pub fn read_list(text: &[u8], out: &mut [i32]) -> Listed
 
 // Where the line ends that a place is in: at the next line feed, or with the text.
 fn line_end(text: &[u8], at: usize) -> usize
-    ensures { result ≡ at + lineLength (drop at text.now) }
+    ensures { result ≡ at + line_length (drop at text.now) }
 {
     let mut i = at;
     while i < text.len() {
@@ -64,7 +64,7 @@ fn line_end(text: &[u8], at: usize) -> usize
 
 // Where the word ends that begins at a place.
 fn word_end(text: &[u8], at: usize) -> usize
-    ensures { result ≡ at + wordLength (drop at text.now) }
+    ensures { result ≡ at + word_length (drop at text.now) }
 {
     let mut i = at;
     while i < text.len() {
@@ -78,7 +78,7 @@ fn word_end(text: &[u8], at: usize) -> usize
 
 // Does a character belong to a word?
 fn is_word(c: u8) -> bool
-    ensures { result ≡ isWord c }
+    ensures { result ≡ is_word c }
 {
     if c == 10 {
         return false;

@@ -8,18 +8,18 @@ use Prim.Native.Nat.{◌^◌, ◌<◌}
 use lib.Dec.{lit<}
 use lib.IntN.{ℤ}
 use lib.ListN.{length}
-use Rattle.frame.specs.Questions.{Contents, withRecord, noRecord}
-use Rattle.numbers.specs.Numbers.{contentsNumbers, numbersIn, contentsFrom}
+use Rattle.frame.specs.Questions.{Contents, with_record, no_record}
+use Rattle.numbers.specs.Numbers.{contents_numbers, numbers_in, contents_from}
 
 -- The numbers at the start of a list are the reading's, whatever stands behind them.
-pub contents-back : (c : Contents) (rest : List ℤ) → contentsFrom (numbersIn c) (contentsNumbers c ++ rest) ≡ c
-contents-back (withRecord h r) rest = refl
-contents-back (noRecord h) rest = refl
+pub contents-back : (c : Contents) (rest : List ℤ) → contents_from (numbers_in c) (contents_numbers c ++ rest) ≡ c
+contents-back (with_record h r) rest = refl
+contents-back (no_record h) rest = refl
 
-pub numbers-count : (c : Contents) → length (contentsNumbers c) ≡ numbersIn c
-numbers-count (withRecord h r) = refl
-numbers-count (noRecord h) = refl
+pub numbers-count : (c : Contents) → length (contents_numbers c) ≡ numbers_in c
+numbers-count (with_record h r) = refl
+numbers-count (no_record h) = refl
 
-pub numbers-few : (c : Contents) → numbersIn c < 2 ^ 32
-numbers-few (withRecord h r) = lit< tt
-numbers-few (noRecord h) = lit< tt
+pub numbers-few : (c : Contents) → numbers_in c < 2 ^ 32
+numbers-few (with_record h r) = lit< tt
+numbers-few (no_record h) = lit< tt

@@ -13,12 +13,12 @@ use Rattle.geometry.specs.Bounds.{PointWithin}
 use Rattle.refusal.specs.Limit.{Answer, gives, refused}
 use Rattle.layout.specs.declared.Header.{Header}
 use Rattle.layout.specs.Layout.{version1}
-use Rattle.layout.specs.Values.{fromRecord}
+use Rattle.layout.specs.Values.{from_record}
 use Rattle.layout.proofs.Bounds.{kind-lt, record-within}
-use Rattle.frame.specs.File.{recordOf}
-use Rattle.frame.specs.Questions.{Contents, withRecord, noRecord, checked, reading}
+use Rattle.frame.specs.File.{record_of}
+use Rattle.frame.specs.Questions.{Contents, with_record, no_record, checked, reading}
 use Rattle.frame.proofs.Accepted.{AcceptedFile, accepted, reading-refused, reading-accepted}
-use Rattle.numbers.specs.Numbers.{headerNumbers, recordNumbers}
+use Rattle.numbers.specs.Numbers.{header_numbers, record_numbers}
 use Rattle.numbers.specs.Inner.{Small}
 
 -- the numbers of a point, and a natural number
@@ -35,30 +35,30 @@ a & b = (a, b)
 point-small : {p : Point} (zs : List ℤ) → PointWithin (2 ^ 13) p → Small zs → Small (p.x ∷ p.y ∷ p.z ∷ zs)
 point-small zs h r = coordinate h.x & coordinate h.y & coordinate h.z & r
 
-pub accepted-small : {s : List ℕ} {h : Header} → AcceptedFile s h → Small (headerNumbers h)
+pub accepted-small : {s : List ℕ} {h : Header} → AcceptedFile s h → Small (header_numbers h)
 accepted-small {h = h} a =
     let g = a.grid.within in
     natural (omega (arith, a.version)) & natural (omega (arith, g.x.most)) & natural (omega (arith, g.y.most)) & natural (omega (arith, g.z.most))
     & within-weaken (lit≤ tt) g.edge & point-small (pos h.count ∷ []) g.origin (natural a.count & tt)
 
-pub record-small : (s : List ℕ) (i : ℕ) → Small (recordNumbers (recordOf s i))
+pub record-small : (s : List ℕ) (i : ℕ) → Small (record_numbers (record_of s i))
 record-small s i =
-    let w = record-within (fromRecord version1 s i) in
-    let t = (recordOf s i).triangle in
+    let w = record-within (from_record version1 s i) in
+    let t = (record_of s i).triangle in
     let last = t.v2.x ∷ t.v2.y ∷ t.v2.z ∷ [] in
-    natural (omega (arith, kind-lt (fromRecord version1 s i)))
+    natural (omega (arith, kind-lt (from_record version1 s i)))
     & point-small (t.v1.x ∷ t.v1.y ∷ t.v1.z ∷ last) w.v0 (point-small last w.v1 (point-small [] w.v2 tt))
 
 -- The numbers of an answer are small, those of the header and those of the record.
 abbrev pub SmallReading : Answer Contents → Type 0
-SmallReading (gives (withRecord h r)) = Small (headerNumbers h) × Small (recordNumbers r)
-SmallReading (gives (noRecord h)) = Small (headerNumbers h)
+SmallReading (gives (with_record h r)) = Small (header_numbers h) × Small (record_numbers r)
+SmallReading (gives (no_record h)) = Small (header_numbers h)
 SmallReading (refused n p) = Unit {0}
 
 pub small-reading : (s : List ℕ) (i : ℕ) → SmallReading (reading s i)
 small-reading s i = go (checked s) refl
   where
-    at : (b : Bool) (h : Header) → AcceptedFile s h → SmallReading (gives (cond b (withRecord h (recordOf s i)) (noRecord h)))
+    at : (b : Bool) (h : Header) → AcceptedFile s h → SmallReading (gives (cond b (with_record h (record_of s i)) (no_record h)))
     at true h a = (accepted-small a, record-small s i)
     at false h a = accepted-small a
 

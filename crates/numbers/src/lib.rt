@@ -1,15 +1,15 @@
 // The numbers of a plain reading, as they are put out.
 ghost use Rattle.std.specs.Prelude.{◌++◌, ◌≡◌, ◌≤◌, ◌^◌, pos, length, drop};
 ghost use Rattle.integers.specs.Within.{Within};
-ghost use Rattle.numbers.specs.Numbers.{headerNumbers, recordNumbers};
+ghost use Rattle.numbers.specs.Numbers.{header_numbers, record_numbers};
 ghost use Rattle.numbers.specs.Inner.{Small};
 
 use layout::{Header, Record};
 
 // The header's values, as they are put out.
 pub fn header_numbers(header: Header) -> [i32; 9]
-    requires { Small (headerNumbers header) }
-    ensures { result ≡ headerNumbers header }
+    requires { Small (header_numbers header) }
+    ensures { result ≡ header_numbers header }
 {
     let g = header.grid;
     let origin = g.origin;
@@ -28,8 +28,8 @@ pub fn header_numbers(header: Header) -> [i32; 9]
 
 // A record's values, as they are put out.
 pub fn record_numbers(rec: Record) -> [i32; 10]
-    requires { Small (recordNumbers rec) }
-    ensures { result ≡ recordNumbers rec }
+    requires { Small (record_numbers rec) }
+    ensures { result ≡ record_numbers rec }
 {
     let t = rec.triangle;
     let v0 = t.v0;

@@ -3,7 +3,7 @@
 use mathlib.Core.Path.{◌≡◌, ap, ap₂, ◌∙◌}
 use mathlib.Core.List.{List, [], ◌∷◌}
 use lib.IntN.{ℤ, pos, ◌+ℤ◌, ◌*ℤ◌, zero-*ℤ}
-use Rattle.integers.specs.Order.{minℤ, maxℤ}
+use Rattle.integers.specs.Order.{min_ℤ, max_ℤ}
 use Rattle.integers.proofs.Omega.{zarith, +! }
 use Rattle.integers.proofs.Laws.{+-right-comm}
 use Rattle.integers.proofs.Expr.{var, ◌⊕◌, ◌⊖◌, ◌⊗◌}
@@ -11,13 +11,13 @@ use Rattle.integers.proofs.Ring.{ring, ring4}
 use Rattle.integers.proofs.MinMax.{min!, max! }
 use Rattle.geometry.specs.declared.Point.{Point}
 use Rattle.geometry.specs.declared.Triangle.{Triangle}
-use Rattle.overlap.specs.Rule.{Side, low, high, step, corner, normal, offset, overSides, overCorners, least8, greatest8}
+use Rattle.overlap.specs.Rule.{Side, low, high, step, corner, normal, offset, over_sides, over_corners, least8, greatest8}
 
-min-shift : (k a b : ℤ) → minℤ (k +ℤ a) (k +ℤ b) ≡ k +ℤ minℤ a b
-min-shift k a b = omega (zarith, +! k a, +! k b, +! k (minℤ a b), min! a b, min! (k +ℤ a) (k +ℤ b))
+min-shift : (k a b : ℤ) → min_ℤ (k +ℤ a) (k +ℤ b) ≡ k +ℤ min_ℤ a b
+min-shift k a b = omega (zarith, +! k a, +! k b, +! k (min_ℤ a b), min! a b, min! (k +ℤ a) (k +ℤ b))
 
-max-shift : (k a b : ℤ) → maxℤ (k +ℤ a) (k +ℤ b) ≡ k +ℤ maxℤ a b
-max-shift k a b = omega (zarith, +! k a, +! k b, +! k (maxℤ a b), max! a b, max! (k +ℤ a) (k +ℤ b))
+max-shift : (k a b : ℤ) → max_ℤ (k +ℤ a) (k +ℤ b) ≡ k +ℤ max_ℤ a b
+max-shift k a b = omega (zarith, +! k a, +! k b, +! k (max_ℤ a b), max! a b, max! (k +ℤ a) (k +ℤ b))
 
 -- the order of the terms
 x-last : (k x y z : ℤ) → k +ℤ x +ℤ z +ℤ y ≡ k +ℤ z +ℤ y +ℤ x
@@ -28,24 +28,24 @@ x-first = ring4 (λ k x y z. k ⊕ z ⊕ y ⊕ x) (λ k x y z. k ⊕ x ⊕ y ⊕
 
 module _ (op : ℤ → ℤ → ℤ) (shift : (k a b : ℤ) → op (k +ℤ a) (k +ℤ b) ≡ k +ℤ op a b) where
   -- on one axis
-  over-axis : (f : Side → ℤ) (k d n : ℤ) → ((α : Side) → f α ≡ k +ℤ step α d *ℤ n) → overSides op f ≡ k +ℤ op (pos 0) (d *ℤ n)
+  over-axis : (f : Side → ℤ) (k d n : ℤ) → ((α : Side) → f α ≡ k +ℤ step α d *ℤ n) → over_sides op f ≡ k +ℤ op (pos 0) (d *ℤ n)
   over-axis f k d n h = ap₂ op (h low ∙ ap (λ (z : ℤ). k +ℤ z) (zero-*ℤ n)) (h high) ∙ shift k (pos 0) (d *ℤ n)
 
   -- on three: z, then y, then x
   over-corners : (f : Side → Side → Side → ℤ) (k : ℤ) (d n : Point)
       → ((α β γ : Side) → f α β γ ≡ k +ℤ step α d.x *ℤ n.x +ℤ step β d.y *ℤ n.y +ℤ step γ d.z *ℤ n.z)
-      → overCorners op f ≡ k +ℤ op (pos 0) (d.x *ℤ n.x) +ℤ op (pos 0) (d.y *ℤ n.y) +ℤ op (pos 0) (d.z *ℤ n.z)
+      → over_corners op f ≡ k +ℤ op (pos 0) (d.x *ℤ n.x) +ℤ op (pos 0) (d.y *ℤ n.y) +ℤ op (pos 0) (d.z *ℤ n.z)
   over-corners f k d n h =
       let x : Side → ℤ = λ α. step α d.x *ℤ n.x in
       let y : Side → ℤ = λ β. step β d.y *ℤ n.y in
       let X = op (pos 0) (d.x *ℤ n.x) in
       let Y = op (pos 0) (d.y *ℤ n.y) in
       let Z = op (pos 0) (d.z *ℤ n.z) in
-      let over-z : (α β : Side) → overSides op (λ γ. f α β γ) ≡ k +ℤ x α +ℤ y β +ℤ Z =
+      let over-z : (α β : Side) → over_sides op (λ γ. f α β γ) ≡ k +ℤ x α +ℤ y β +ℤ Z =
       λ α β. over-axis (λ γ. f α β γ) (k +ℤ x α +ℤ y β) d.z n.z (h α β) in
-      let over-y : (α : Side) → overSides op (λ β. overSides op (λ γ. f α β γ)) ≡ k +ℤ x α +ℤ Z +ℤ Y =
-      λ α. over-axis (λ β. overSides op (λ γ. f α β γ)) (k +ℤ x α +ℤ Z) d.y n.y (λ β. over-z α β ∙ +-right-comm (k +ℤ x α) (y β) Z) in
-      over-axis (λ α. overSides op (λ β. overSides op (λ γ. f α β γ))) (k +ℤ Z +ℤ Y) d.x n.x (λ α. over-y α ∙ x-last k (x α) Y Z)
+      let over-y : (α : Side) → over_sides op (λ β. over_sides op (λ γ. f α β γ)) ≡ k +ℤ x α +ℤ Z +ℤ Y =
+      λ α. over-axis (λ β. over_sides op (λ γ. f α β γ)) (k +ℤ x α +ℤ Z) d.y n.y (λ β. over-z α β ∙ +-right-comm (k +ℤ x α) (y β) Z) in
+      over-axis (λ α. over_sides op (λ β. over_sides op (λ γ. f α β γ))) (k +ℤ Z +ℤ Y) d.x n.x (λ α. over-y α ∙ x-last k (x α) Y Z)
       ∙ x-first k X Y Z
 
 -- ---- the eight corners
@@ -65,9 +65,9 @@ module _ (t : Triangle) (p d : Point) where
       tt
 
   pub least8-sum : let n = normal t in
-      least8 t p d ≡ offset t p +ℤ minℤ (pos 0) (d.x *ℤ n.x) +ℤ minℤ (pos 0) (d.y *ℤ n.y) +ℤ minℤ (pos 0) (d.z *ℤ n.z)
-  least8-sum = over-corners minℤ min-shift (λ α β γ. offset t (corner p d α β γ)) (offset t p) d (normal t) at-corner
+      least8 t p d ≡ offset t p +ℤ min_ℤ (pos 0) (d.x *ℤ n.x) +ℤ min_ℤ (pos 0) (d.y *ℤ n.y) +ℤ min_ℤ (pos 0) (d.z *ℤ n.z)
+  least8-sum = over-corners min_ℤ min-shift (λ α β γ. offset t (corner p d α β γ)) (offset t p) d (normal t) at-corner
 
   pub greatest8-sum : let n = normal t in
-      greatest8 t p d ≡ offset t p +ℤ maxℤ (pos 0) (d.x *ℤ n.x) +ℤ maxℤ (pos 0) (d.y *ℤ n.y) +ℤ maxℤ (pos 0) (d.z *ℤ n.z)
-  greatest8-sum = over-corners maxℤ max-shift (λ α β γ. offset t (corner p d α β γ)) (offset t p) d (normal t) at-corner
+      greatest8 t p d ≡ offset t p +ℤ max_ℤ (pos 0) (d.x *ℤ n.x) +ℤ max_ℤ (pos 0) (d.y *ℤ n.y) +ℤ max_ℤ (pos 0) (d.z *ℤ n.z)
+  greatest8-sum = over-corners max_ℤ max-shift (λ α β γ. offset t (corner p d α β γ)) (offset t p) d (normal t) at-corner

@@ -5,20 +5,20 @@ use mathlib.Core.List.{List}
 use Prim.Native.Nat.{ℕ, ◌^◌, ◌<◌, ◌≤◌}
 use native.Mathlib.Omega.{arith}
 use lib.Dec.{lit<}
-use Rattle.refusal.specs.Questions.{ofEach}
+use Rattle.refusal.specs.Questions.{of_each}
 use Rattle.layout.specs.Layout.{version1}
 use Rattle.layout.proofs.Bounds.{version1-usable, header-bounded}
-use Rattle.frame.specs.File.{headerOf}
-use Rattle.frame.specs.Questions.{headerQuestions, kindQuestion, fileQuestions}
+use Rattle.frame.specs.File.{header_of}
+use Rattle.frame.specs.Questions.{header_questions, kind_question, file_questions}
 use Rattle.pack.proofs.Fitting.{FitAll, fit_append, fit-each}
 
 -- a question with a number up to 7 and the place 0
 few : {n : ℕ} → n ≤ 7 → (n < 2 ^ 8) × (0 < 2 ^ 32)
 few l = (omega arith, lit< tt)
 
-pub file-fits : (s : List ℕ) → FitAll (fileQuestions s)
+pub file-fits : (s : List ℕ) → FitAll (file_questions s)
 file-fits s =
-    let h = headerOf s in
-    fit_append (headerQuestions version1 h s) (ofEach (kindQuestion version1 s) h.count)
+    let h = header_of s in
+    fit_append (header_questions version1 h s) (of_each (kind_question version1 s) h.count)
     (few (omega arith), (few (omega arith), (few (omega arith), (few (omega arith), (few (omega arith), (few (omega arith), tt))))))
-    (fit-each (kindQuestion version1 s) h.count (λ i l. (lit< tt, omega (arith, (header-bounded version1 version1-usable s).count))))
+    (fit-each (kind_question version1 s) h.count (λ i l. (lit< tt, omega (arith, (header-bounded version1 version1-usable s).count))))

@@ -8,7 +8,7 @@ use mathlib.Core.List.{List, [], ◌∷◌, ◌++◌}
 use mathlib.Core.Path.{◌≡◌, refl, sym, subst}
 use Prim.Native.Nat.{ℕ, zero, suc, ◌^◌, ◌<◌}
 use native.Mathlib.Omega.{arith}
-use Rattle.refusal.specs.Questions.{Question, answered, ofEach}
+use Rattle.refusal.specs.Questions.{Question, answered, of_each}
 use Rattle.refusal.proofs.Asking.{stopped, through}
 use Rattle.pack.proofs.Unpack.{Fits}
 
@@ -23,10 +23,10 @@ pub fit_append : (a b : List Question) → FitAll a → FitAll b → FitAll (a +
 fit_append [] b f g = g
 fit_append (q ∷ a) b f g = (f.0, fit_append a b f.1 g)
 
-pub fit-each : (q : ℕ → Question) (n : ℕ) → ((i : ℕ) → i < n → FitsQuestion (q i)) → FitAll (ofEach q n)
-unfolding ofEach
+pub fit-each : (q : ℕ → Question) (n : ℕ) → ((i : ℕ) → i < n → FitsQuestion (q i)) → FitAll (of_each q n)
+unfolding of_each
 fit-each q zero f = tt
-fit-each q (suc n) f = fit_append (ofEach q n) (q n ∷ []) (fit-each q n (λ i l. f i (omega arith))) (f n (omega arith), tt)
+fit-each q (suc n) f = fit_append (of_each q n) (q n ∷ []) (fit-each q n (λ i l. f i (omega arith))) (f n (omega arith), tt)
 
 module _ {A : Type 0} (P : A → Type 0) where
   pub answered-fits : (x : A) (qs : List Question) → FitAll qs → P x → Fits P (answered qs x)

@@ -10,28 +10,28 @@ packed tag number leg low = (tag * 2 ^ 8 + number % 2 ^ 8) * 2 ^ 48 + (leg % 2 ^
 abbrev pub tag_of : ℕ → ℕ
 tag_of r = r / 2 ^ 56
 
-abbrev pub limitNumberOf : ℕ → ℕ
-limitNumberOf r = r / 2 ^ 48 % 2 ^ 8
+abbrev pub limit_number_of : ℕ → ℕ
+limit_number_of r = r / 2 ^ 48 % 2 ^ 8
 
-abbrev pub legOf : ℕ → ℕ
-legOf r = r / 2 ^ 32 % 2 ^ 16
+abbrev pub leg_of : ℕ → ℕ
+leg_of r = r / 2 ^ 32 % 2 ^ 16
 
 -- A place, a cell or a count.
 abbrev pub low_of : ℕ → ℕ
 low_of r = r % 2 ^ 32
 
 -- A refusal: tag 1, the number, the place.
-abbrev pub packedRefusal : (number place : ℕ) → ℕ
-packedRefusal n p = packed 1 n 0 p
+abbrev pub packed_refusal : (number place : ℕ) → ℕ
+packed_refusal n p = packed 1 n 0 p
 
 -- A refusal where the tag is 1, and else another answer.
-abbrev pub orRefusal : {A : Type 0} → ℕ → Answer A → Answer A
-orRefusal r a = cond (eqb (tag_of r) 1) (refused (limitNumberOf r) (low_of r)) a
+abbrev pub or_refusal : {A : Type 0} → ℕ → Answer A → Answer A
+or_refusal r a = cond (eqb (tag_of r) 1) (refused (limit_number_of r) (low_of r)) a
 
 -- A call that gives a count or a length: tag 0 and the number, or the refusal.
-abbrev pub packedCount : Answer ℕ → ℕ
-packedCount (gives n) = packed 0 0 0 n
-packedCount (refused n p) = packedRefusal n p
+abbrev pub packed_count : Answer ℕ → ℕ
+packed_count (gives n) = packed 0 0 0 n
+packed_count (refused n p) = packed_refusal n p
 
-unfoldable pub unpackedCount : ℕ → Answer ℕ
-unpackedCount r = orRefusal r (gives (low_of r))
+unfoldable pub unpacked_count : ℕ → Answer ℕ
+unpacked_count r = or_refusal r (gives (low_of r))

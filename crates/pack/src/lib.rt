@@ -1,7 +1,7 @@
 // A call's answer, packed into one number of 64 bits.
 ghost use Rattle.std.specs.Prelude.{◌≡◌, ◌<◌};
-ghost use Rattle.refusal.specs.Limit.{refusalOf};
-ghost use Rattle.pack.specs.Pack.{packed, packedRefusal};
+ghost use Rattle.refusal.specs.Limit.{refusal_of};
+ghost use Rattle.pack.specs.Pack.{packed, packed_refusal};
 
 use refusal::Limit;
 
@@ -17,7 +17,7 @@ pub fn pack(tag: u64, number: usize, leg: usize, low: usize) -> u64
 
 // A refusal's number and place, packed.
 pub fn pack_limit(limit: Limit) -> u64
-    ensures { result ≡ packedRefusal (refusalOf limit).number (refusalOf limit).place }
+    ensures { result ≡ packed_refusal (refusal_of limit).number (refusal_of limit).place }
 {
     let refusal = limit.refusal();
     pack(1, refusal.number as usize, 0, refusal.place)

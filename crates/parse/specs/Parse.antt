@@ -4,8 +4,8 @@ use Rattle.parse.specs.declared.Word.{Word}
 use Rattle.parse.specs.declared.Word.TheVariants.{Number, NoNumber}
 
 -- Is a character one of the ten figures? 48 is `0`, 57 is `9`.
-unfoldable pub isFigure : ℕ → Bool
-isFigure c = cond (ltb c 48) false (ltb c 58)
+unfoldable pub is_figure : ℕ → Bool
+is_figure c = cond (ltb c 48) false (ltb c 58)
 
 -- A number with its sign.
 abbrev pub with_sign : (negative : Bool) → ℕ → ℤ
@@ -13,20 +13,20 @@ with_sign negative n = cond negative (neg_ℤ (pos n)) (pos n)
 
 -- Figures behind others that say n. A figure counts only behind a number below 10 ^ 15: no number has more than 16 figures, zeros in
 -- front not counted.
-unfoldable pub figuresFrom : (negative : Bool) → ℕ → List ℕ → Word
-figuresFrom negative n [] = Number (with_sign negative n)
-figuresFrom negative n (c ∷ cs) = cond (isFigure c) (cond (ltb n 1000000000000000) (figuresFrom negative (n * 10 + (c - 48)) cs) NoNumber) NoNumber
+unfoldable pub figures_from : (negative : Bool) → ℕ → List ℕ → Word
+figures_from negative n [] = Number (with_sign negative n)
+figures_from negative n (c ∷ cs) = cond (is_figure c) (cond (ltb n 1000000000000000) (figures_from negative (n * 10 + (c - 48)) cs) NoNumber) NoNumber
 
 -- One figure or more.
 unfoldable pub figures : (negative : Bool) → List ℕ → Word
 figures negative [] = NoNumber
-figures negative (c ∷ cs) = figuresFrom negative 0 (c ∷ cs)
+figures negative (c ∷ cs) = figures_from negative 0 (c ∷ cs)
 
 -- Does a word begin with a minus sign? 45 is `-`.
-unfoldable pub hasMinus : List ℕ → Bool
-hasMinus [] = false
-hasMinus (c ∷ cs) = eqb c 45
+unfoldable pub has_minus : List ℕ → Bool
+has_minus [] = false
+has_minus (c ∷ cs) = eqb c 45
 
 -- A word: figures, with a minus sign before them or none.
 unfoldable pub number_in : List ℕ → Word
-number_in s = cond (hasMinus s) (figures true (drop 1 s)) (figures false s)
+number_in s = cond (has_minus s) (figures true (drop 1 s)) (figures false s)

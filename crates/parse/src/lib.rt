@@ -1,6 +1,6 @@
 // Numbers in base ten, from text: what a person typed.
 ghost use Rattle.std.specs.Prelude.{◌≡◌, ◌<◌, ◌^◌};
-ghost use Rattle.parse.specs.Parse.{hasMinus, isFigure, with_sign, figures, number_in};
+ghost use Rattle.parse.specs.Parse.{has_minus, is_figure, with_sign, figures, number_in};
 
 // What a word says: a whole number, or none.
 #[derive(Drop)]
@@ -21,7 +21,7 @@ pub fn number_in(word: &[u8]) -> Word
 
 // Does a word begin with a minus sign?
 fn has_minus(word: &[u8]) -> bool
-    ensures { result ≡ hasMinus word.now }
+    ensures { result ≡ has_minus word.now }
 {
     if word.len() == 0 {
         return false;
@@ -56,7 +56,7 @@ fn figures(s: &[u8], negative: bool) -> Word
 
 // Is the character one of the ten figures?
 fn is_figure(c: u8) -> bool
-    ensures { result ≡ isFigure c }
+    ensures { result ≡ is_figure c }
 {
     if c < 48 {
         return false;

@@ -18,8 +18,8 @@ use lib.Dec.{ltb}
 use lib.ListN.{length, get_or, set, length-set}
 use lib.Pow.{pow_mono, pow_pos}
 use lib.Seq.{get_or-set_same, get_or-set_other}
-use Rattle.map.specs.Map.{isFilled, bit}
-use Rattle.pending.specs.Pending.{stack, waits, Progress, Each, weight, load, putIf, halvings}
+use Rattle.map.specs.Map.{is_filled, bit}
+use Rattle.pending.specs.Pending.{stack, waits, Progress, Each, weight, load, put_if, halvings}
 
 pub bit-most : (k : Bool) → bit k ≤ 1
 bit-most true = omega arith
@@ -42,70 +42,70 @@ module _ {B : Type 0} where
     below xs p b zero h = refl
     below xs p b (suc n) h = λ i. get_or-set_other xs p n b z (λ e. omega arith) i ∷ below xs p b n (omega arith) i
 
-    stack-put : (xs : List B) (p : ℕ) (k : Bool) (b : B) → p < length xs → stack z (set xs p b) (p + bit k) ≡ putIf k b (stack z xs p)
+    stack-put : (xs : List B) (p : ℕ) (k : Bool) (b : B) → p < length xs → stack z (set xs p b) (p + bit k) ≡ put_if k b (stack z xs p)
     unfolding stack
     stack-put xs p true b h = ap (stack z (set xs p b)) (add-one p) ∙ (λ i. get_or-set_same xs p b z h i ∷ below xs p b p (omega arith) i)
     stack-put xs p false b h = let e : p + 0 ≡ p = omega arith in ap (stack z (set xs p b)) e ∙ below xs p b p (omega arith)
 
     -- the halves of block p take its place, the lower one above
     pub stack-halves : (xs : List B) (p : ℕ) (lower upper : Bool) (low high : B) → p + 1 < length xs
-        → stack z (set (set xs p high) (p + bit upper) low) (p + bit upper + bit lower) ≡ putIf lower low (putIf upper high (stack z xs p))
+        → stack z (set (set xs p high) (p + bit upper) low) (p + bit upper + bit lower) ≡ put_if lower low (put_if upper high (stack z xs p))
     stack-halves xs p lower upper low high h =
-        stack-put (set xs p high) (p + bit upper) lower low (simp length-set (omega (arith, bit-most upper))) ∙ ap (putIf lower low) (stack-put xs p upper high (omega arith))
+        stack-put (set xs p high) (p + bit upper) lower low (simp length-set (omega (arith, bit-most upper))) ∙ ap (put_if lower low) (stack-put xs p upper high (omega arith))
 
   -- ---- each block's property
   module _ (P : ℕ → B → Type 0) where
-    each-put : (k : Bool) (b : B) (bs : List B) → Each P bs → (k ≡ true → P (length bs) b) → Each P (putIf k b bs)
+    each-put : (k : Bool) (b : B) (bs : List B) → Each P bs → (k ≡ true → P (length bs) b) → Each P (put_if k b bs)
     each-put true b bs rest new = (new refl, rest)
     each-put false b bs rest new = rest
 
     pub each_halves : (lower upper : Bool) (low high : B) (bs : List B) → Each P bs → (upper ≡ true → P (length bs) high)
-        → (lower ≡ true → (place : ℕ) → place ≤ length bs + 1 → P place low) → Each P (putIf lower low (putIf upper high bs))
+        → (lower ≡ true → (place : ℕ) → place ≤ length bs + 1 → P place low) → Each P (put_if lower low (put_if upper high bs))
     each_halves lower upper low high bs rest new-high new-low =
-        each-put lower low (putIf upper high bs) (each-put upper high bs rest new-high) (λ e. new-low e (length (putIf upper high bs)) (length-put upper))
+        each-put lower low (put_if upper high bs) (each-put upper high bs rest new-high) (λ e. new-low e (length (put_if upper high bs)) (length-put upper))
       where
-        length-put : (k : Bool) → length (putIf k high bs) ≤ length bs + 1
+        length-put : (k : Bool) → length (put_if k high bs) ≤ length bs + 1
         length-put true = omega arith
         length-put false = omega arith
 
   -- ---- what is filled, and what is pending
   module _ (wanted : B → ℕ → Bool) where
-    waits-put : (k : Bool) (b : B) (bs : List B) (n : ℕ) → (k ≡ false → wanted b n ≡ false) → waits wanted (putIf k b bs) n ≡ (wanted b n || waits wanted bs n)
+    waits-put : (k : Bool) (b : B) (bs : List B) (n : ℕ) → (k ≡ false → wanted b n ≡ false) → waits wanted (put_if k b bs) n ≡ (wanted b n || waits wanted bs n)
     waits-put true b bs n none = refl
     waits-put false b bs n none = ap (λ (t : Bool). t || waits wanted bs n) (sym (none refl))
 
     module _ (whole : B) (old : List ℕ) where
       pub begun : Progress wanted whole old (whole ∷ []) old
-      begun = record { len = refl; cells = λ n. ap (λ (t : Bool). isFilled old n || t) (or-false (wanted whole n)) }
+      begun = record { len = refl; cells = λ n. ap (λ (t : Bool). is_filled old n || t) (or-false (wanted whole n)) }
 
       pub finished : {b : B} {bs : List B} {map new : List ℕ} → Progress wanted whole old (b ∷ bs) map → length new ≡ length map
-          → ((n : ℕ) → isFilled new n ≡ (isFilled map n || wanted b n)) → Progress wanted whole old bs new
+          → ((n : ℕ) → is_filled new n ≡ (is_filled map n || wanted b n)) → Progress wanted whole old bs new
       finished {b} {bs} {map} p len fills = record {
         len = len ∙ p.len;
-        cells = λ n. ap (λ (t : Bool). t || waits wanted bs n) (fills n) ∙ or_assoc (isFilled map n) (wanted b n) (waits wanted bs n) ∙ p.cells n;
+        cells = λ n. ap (λ (t : Bool). t || waits wanted bs n) (fills n) ∙ or_assoc (is_filled map n) (wanted b n) (waits wanted bs n) ∙ p.cells n;
       }
 
       pub halved : {b low high : B} {bs : List B} {map : List ℕ} {lower upper : Bool} → Progress wanted whole old (b ∷ bs) map
           → ((n : ℕ) → wanted b n ≡ (wanted low n || wanted high n)) → (lower ≡ false → (n : ℕ) → wanted low n ≡ false)
-          → (upper ≡ false → (n : ℕ) → wanted high n ≡ false) → Progress wanted whole old (putIf lower low (putIf upper high bs)) map
+          → (upper ≡ false → (n : ℕ) → wanted high n ≡ false) → Progress wanted whole old (put_if lower low (put_if upper high bs)) map
       halved {b} {low} {high} {bs} {map} {lower} {upper} p both none-low none-high = record {
         len = p.len;
         cells = λ n.
-            ap (λ (t : Bool). isFilled map n || t)
-            (waits-put lower low (putIf upper high bs) n (λ e. none-low e n) ∙ ap (λ (t : Bool). wanted low n || t) (waits-put upper high bs n (λ e. none-high e n))
+            ap (λ (t : Bool). is_filled map n || t)
+            (waits-put lower low (put_if upper high bs) n (λ e. none-low e n) ∙ ap (λ (t : Bool). wanted low n || t) (waits-put upper high bs n (λ e. none-high e n))
             ∙ sym (or_assoc (wanted low n) (wanted high n) (waits wanted bs n)) ∙ ap (λ (t : Bool). t || waits wanted bs n) (sym (both n)))
             ∙ p.cells n;
       }
 
-      pub done : {map : List ℕ} → Progress wanted whole old [] map → (n : ℕ) → isFilled map n ≡ (isFilled old n || wanted whole n)
-      done {map} p n = sym (or-false (isFilled map n)) ∙ p.cells n
+      pub done : {map : List ℕ} → Progress wanted whole old [] map → (n : ℕ) → is_filled map n ≡ (is_filled old n || wanted whole n)
+      done {map} p n = sym (or-false (is_filled map n)) ∙ p.cells n
 
   -- ---- what falls with each turn
   module _ (depth : B → ℕ) where
     pub lighter : (b : B) (bs : List B) → load depth bs < load depth (b ∷ bs)
     lighter b bs = omega (arith, pow_pos (depth b))
 
-    load-put : (k : Bool) (b : B) (bs : List B) → load depth (putIf k b bs) ≤ weight depth b + load depth bs
+    load-put : (k : Bool) (b : B) (bs : List B) → load depth (put_if k b bs) ≤ weight depth b + load depth bs
     load-put true b bs = omega arith
     load-put false b bs = omega arith
 
@@ -113,9 +113,9 @@ module _ {B : Type 0} where
     half-weight p b h = omega (arith, pow_mono h, pow-suc 2 (depth p))
 
     pub halves-lighter : (b low high : B) (lower upper : Bool) (bs : List B) → depth low < depth b → depth high < depth b
-        → load depth (putIf lower low (putIf upper high bs)) < load depth (b ∷ bs)
+        → load depth (put_if lower low (put_if upper high bs)) < load depth (b ∷ bs)
     halves-lighter b low high lower upper bs l h =
-        omega (arith, load-put lower low (putIf upper high bs), load-put upper high bs, half-weight low b l, half-weight high b h, pow_pos (depth low), pow_pos (depth high))
+        omega (arith, load-put lower low (put_if upper high bs), load-put upper high bs, half-weight low b l, half-weight high b h, pow_pos (depth low), pow_pos (depth high))
 
 -- ---- halvings
 bit_le : (k m j n : ℕ) → (k < m → j < n) → bit (ltb k m) ≤ bit (ltb j n)

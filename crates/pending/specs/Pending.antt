@@ -1,7 +1,7 @@
 -- A map that is filled by pieces (a worklist): blocks of cells are pending, the last one is taken, and it is finished, or its halves take its place. The type B of
 -- blocks is any; `wanted b n` says that cell n lies in block b and is to be filled. Definitions only.
 use Rattle.std.specs.Prelude.{Bool, true, false, ◌||◌, List, [], ◌∷◌, ◌≡◌, ℕ, zero, suc, ◌+◌, ◌-◌, ◌*◌, ◌^◌, ltb, length, get_or}
-use Rattle.map.specs.Map.{isFilled, bit}
+use Rattle.map.specs.Map.{is_filled, bit}
 
 module _ {B : Type 0} where
   -- The first n blocks of an array, as a stack: the last of them comes first. Past its end the array reads as z.
@@ -17,7 +17,7 @@ module _ {B : Type 0} where
   -- Block `whole` is being filled into the map `old`: the cells that are filled, or wanted in a pending block, are those that were filled, or are wanted in `whole`.
   pub record Progress (wanted : B → ℕ → Bool) (whole : B) (old : List ℕ) (pending : List B) (map : List ℕ) : Type 0 where
     pub len : length map ≡ length old
-    pub cells : (n : ℕ) → (isFilled map n || waits wanted pending n) ≡ (isFilled old n || wanted whole n)
+    pub cells : (n : ℕ) → (is_filled map n || waits wanted pending n) ≡ (is_filled old n || wanted whole n)
 
   -- Each block of the stack has the property, at its place above the bottom.
   abbrev pub Each : (P : (place : ℕ) → B → Type 0) → List B → Type 0
@@ -33,9 +33,9 @@ module _ {B : Type 0} where
   load depth (b ∷ bs) = weight depth b + load depth bs
 
   -- A block put on the stack, or not.
-  abbrev pub putIf : Bool → B → List B → List B
-  putIf true b bs = b ∷ bs
-  putIf false b bs = bs
+  abbrev pub put_if : Bool → B → List B → List B
+  put_if true b bs = b ∷ bs
+  put_if false b bs = bs
 
 -- How many halvings lead from a row of n cells, at most 64, to single cells, where the larger half of an odd row has one cell more: the logarithm of n to the
 -- base 2, rounded up.

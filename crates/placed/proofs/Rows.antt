@@ -4,9 +4,9 @@
 use mathlib.Core.Bool.{Bool, true, false}
 use mathlib.Core.Path.{◌≡◌, refl}
 use native.Mathlib.Omega.{arith}
-use Rattle.placed.specs.Box.{axisOf}
+use Rattle.placed.specs.Box.{axis_of}
 
-pub along-x : (x y z : Bool) → axisOf x y z ≡ 1 → (y ≡ true) × (z ≡ true)
+pub along-x : (x y z : Bool) → axis_of x y z ≡ 1 → (y ≡ true) × (z ≡ true)
 along-x true true z e = absurd (omega arith)
 along-x true false true e = absurd (omega arith)
 along-x true false false e = absurd (omega arith)
@@ -14,7 +14,7 @@ along-x false true true e = (refl, refl)
 along-x false true false e = absurd (omega arith)
 along-x false false z e = absurd (omega arith)
 
-pub along-y : (x y z : Bool) → axisOf x y z ≡ 2 → (z ≡ true) × (x ≡ true)
+pub along-y : (x y z : Bool) → axis_of x y z ≡ 2 → (z ≡ true) × (x ≡ true)
 along-y true true z e = absurd (omega arith)
 along-y true false true e = (refl, refl)
 along-y true false false e = absurd (omega arith)
@@ -22,7 +22,7 @@ along-y false true true e = absurd (omega arith)
 along-y false true false e = absurd (omega arith)
 along-y false false z e = absurd (omega arith)
 
-pub along-z : (x y z : Bool) → axisOf x y z ≡ 3 → (x ≡ true) × (y ≡ true)
+pub along-z : (x y z : Bool) → axis_of x y z ≡ 3 → (x ≡ true) × (y ≡ true)
 along-z true true z e = (refl, refl)
 along-z true false true e = absurd (omega arith)
 along-z true false false e = absurd (omega arith)

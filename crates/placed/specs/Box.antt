@@ -1,12 +1,12 @@
 -- A triangle's box of cells: whether it has none, and whether it is one cell wide on an axis. Definitions only.
 use Rattle.std.specs.Prelude.{Bool, cond, ◌&&◌, ◌||◌, List, [], ◌∷◌, ℕ, ◌+◌, ◌<◌, leb, eqb, ℤ, pos, ◌+ℤ◌, ◌*ℤ◌}
 use Rattle.std.specs.Int.Signed.{le_z}
-use Rattle.integers.specs.Order.{minℤ, maxℤ}
-use Rattle.geometry.specs.Bounds.{coordinateMax, stepMax, extentMax, each}
+use Rattle.integers.specs.Order.{min_ℤ, max_ℤ}
+use Rattle.geometry.specs.Bounds.{coordinate_max, step_max, extent_max, each}
 use Rattle.grid.specs.declared.BoxRange.{BoxRange}
 use Rattle.grid.specs.declared.CellRange.{CellRange}
 use Rattle.geometry.specs.declared.Triangle.{Triangle}
-use Rattle.geometry.specs.Geometry.{Axis, xOf, yOf, z_of}
+use Rattle.geometry.specs.Geometry.{Axis, x_of, y_of, z_of}
 use Rattle.grid.specs.declared.Lattice.{Lattice}
 
 -- On some axis the box has no cell.
@@ -14,26 +14,26 @@ abbrev pub is_empty : BoxRange → Bool
 is_empty b = leb b.x.end b.x.first || leb b.y.end b.y.first || leb b.z.end b.z.first
 
 -- On an axis, the range has one cell, and the triangle's three coordinates lie within the cell's box.
-abbrev pub isOne : CellRange → (origin step extent a0 a1 a2 : ℤ) → Bool
-isOne r origin step extent a0 a1 a2 =
+abbrev pub is_one : CellRange → (origin step extent a0 a1 a2 : ℤ) → Bool
+is_one r origin step extent a0 a1 a2 =
     let low = origin +ℤ pos r.first *ℤ step in
-    eqb r.end (r.first + 1) && le_z low (minℤ (minℤ a0 a1) a2) && le_z (maxℤ (maxℤ a0 a1) a2) (low +ℤ extent)
+    eqb r.end (r.first + 1) && le_z low (min_ℤ (min_ℤ a0 a1) a2) && le_z (max_ℤ (max_ℤ a0 a1) a2) (low +ℤ extent)
 
 -- The numbers that this asks for: the lattice's origin, step and extent, and three corners.
-abbrev pub oneBounds : List ℕ
-oneBounds = coordinateMax ∷ stepMax ∷ extentMax ∷ each coordinateMax 3 []
+abbrev pub one_bounds : List ℕ
+one_bounds = coordinate_max ∷ step_max ∷ extent_max ∷ each coordinate_max 3 []
 
 -- The triangle stays within one cell on an axis.
 abbrev pub stays : Lattice → Triangle → CellRange → Axis → Bool
-stays l t r a = isOne r (a l.first) l.step l.extent (a t.v0) (a t.v1) (a t.v2)
+stays l t r a = is_one r (a l.first) l.step l.extent (a t.v0) (a t.v1) (a t.v2)
 
 -- The axis of a row of cells, by whether the triangle stays within one cell on x, y and z: the one that it need not stay on, 1, 2 or 3 for x, y or z, and z
 -- before the others; 0 where it stays on fewer than two.
-abbrev pub axisOf : (x y z : Bool) → ℕ
-axisOf x y z = cond x (cond y 3 (cond z 2 0)) (cond y (cond z 1 0) 0)
+abbrev pub axis_of : (x y z : Bool) → ℕ
+axis_of x y z = cond x (cond y 3 (cond z 2 0)) (cond y (cond z 1 0) 0)
 
-abbrev pub rowAxis : Lattice → BoxRange → Triangle → ℕ
-rowAxis l b t = axisOf (stays l t b.x xOf) (stays l t b.y yOf) (stays l t b.z z_of)
+abbrev pub row_axis : Lattice → BoxRange → Triangle → ℕ
+row_axis l b t = axis_of (stays l t b.x x_of) (stays l t b.y y_of) (stays l t b.z z_of)
 
 -- What this asks: the first cell of the box on each axis is one of a grid.
 pub record Firsts (b : BoxRange) : Type 0 where

@@ -3,8 +3,8 @@ use Rattle.std.specs.Prelude.{◌*◌}
 use Rattle.grid.specs.declared.Grid.{Grid}
 use Rattle.columns.specs.declared.Strides.{Strides}
 
-abbrev pub stridesOf : Grid → Strides
-stridesOf g = record { su = 1; nu = g.nx; sv = g.nx; nv = g.ny; sw = g.nx * g.ny; nw = g.nz }
+abbrev pub strides_of : Grid → Strides
+strides_of g = record { su = 1; nu = g.nx; sv = g.nx; nv = g.ny; sw = g.nx * g.ny; nw = g.nz }
 
-abbrev pub turnStrides : Strides → Strides
-turnStrides s = record { su = s.sv; nu = s.nv; sv = s.sw; nv = s.nw; sw = s.su; nw = s.nu }
+abbrev pub turn_strides : Strides → Strides
+turn_strides s = record { su = s.sv; nu = s.nv; sv = s.sw; nv = s.nw; sw = s.su; nw = s.nu }

@@ -1,16 +1,16 @@
 // A triangle and the boxes of a grid's cells: the row of cells that it stays within, and both seen with the axes in some turn.
 ghost use Rattle.std.specs.Prelude.{[], ◌∷◌, ◌≡◌, ◌<◌, ◌≤◌};
 ghost use Rattle.integers.specs.Within.{Withins};
-ghost use Rattle.geometry.specs.Bounds.{offsetMax, each, TriangleWithin, BoundedPoint, BoundedTriangle};
+ghost use Rattle.geometry.specs.Bounds.{offset_max, each, TriangleWithin, BoundedPoint, BoundedTriangle};
 ghost use Rattle.geometry.specs.Geometry.{minus};
-ghost use Rattle.geometry.specs.Inner.{measuredFrom};
+ghost use Rattle.geometry.specs.Inner.{measured_from};
 ghost use Rattle.grid.specs.Usable.{UsableLattice};
-ghost use Rattle.column_rule.specs.Turn.{turnPoint, turnTriangle, turnBox};
-ghost use Rattle.placed.specs.Numbering.{stridesOf, turnStrides};
-ghost use Rattle.placed.specs.Box.{is_empty, isOne, oneBounds, rowAxis, Firsts};
+ghost use Rattle.column_rule.specs.Turn.{turn_point, turn_triangle, turn_box};
+ghost use Rattle.placed.specs.Numbering.{strides_of, turn_strides};
+ghost use Rattle.placed.specs.Box.{is_empty, is_one, one_bounds, row_axis, Firsts};
 ghost use Rattle.overlap.specs.Rule.{normal};
 ghost use Rattle.forms.specs.Triangle.{component};
-ghost use Rattle.placed.specs.Placed.{placedIn, turnPlaced};
+ghost use Rattle.placed.specs.Placed.{placed_in, turn_placed};
 
 use columns::Strides;
 use geometry::{Point, Triangle};
@@ -29,7 +29,7 @@ pub struct Placed {
 // How the cells are numbered.
 pub fn strides(g: Grid) -> Strides
     requires { (g.nx ≤ 64) × (g.ny ≤ 64) }
-    ensures { result ≡ stridesOf g }
+    ensures { result ≡ strides_of g }
 {
     Strides {
         su: 1,
@@ -60,7 +60,7 @@ pub fn is_empty(b: BoxRange) -> bool
 // The axis of a row of cells that the triangle stays within: 1, 2 or 3 for x, y or z, where it stays within one cell on the other two; 0 for none.
 pub fn row_axis(l: Lattice, b: BoxRange, t: Triangle) -> usize
     requires { Firsts b × UsableLattice l × BoundedTriangle t }
-    ensures { result ≡ rowAxis l b t }
+    ensures { result ≡ row_axis l b t }
 {
     let first = l.first;
     let v0 = t.v0;
@@ -90,8 +90,8 @@ pub fn row_axis(l: Lattice, b: BoxRange, t: Triangle) -> usize
 
 // On an axis, has the range one cell, and do the three coordinates lie within its box?
 fn is_one(r: CellRange, origin: i64, step: i64, extent: i64, a0: i64, a1: i64, a2: i64) -> bool
-    requires { Withins oneBounds (origin ∷ step ∷ extent ∷ a0 ∷ a1 ∷ a2 ∷ []) × (r.first < 64) }
-    ensures { result ≡ isOne r origin step extent a0 a1 a2 }
+    requires { Withins one_bounds (origin ∷ step ∷ extent ∷ a0 ∷ a1 ∷ a2 ∷ []) × (r.first < 64) }
+    ensures { result ≡ is_one r origin step extent a0 a1 a2 }
 {
     if r.end != r.first + 1 {
         return false;
@@ -108,7 +108,7 @@ fn is_one(r: CellRange, origin: i64, step: i64, extent: i64, a0: i64, a1: i64, a
 // A triangle measured from the lowest corner of the first box, with its normal; columns along z.
 pub fn place(g: Grid, l: Lattice, b: BoxRange, t: Triangle) -> Placed
     requires { (g.nx ≤ 64) × (g.ny ≤ 64) × UsableLattice l × BoundedTriangle t }
-    ensures { result ≡ placedIn g l b t }
+    ensures { result ≡ placed_in g l b t }
 {
     let measured = measured_from(l.first, t);
     let n = normal(measured);
@@ -123,7 +123,7 @@ pub fn place(g: Grid, l: Lattice, b: BoxRange, t: Triangle) -> Placed
 
 // The normal's component on the third axis, from the corners in the plane of two axes.
 fn component(a0: i64, b0: i64, a1: i64, b1: i64, a2: i64, b2: i64) -> i64
-    requires { Withins (each offsetMax 6 []) (a0 ∷ b0 ∷ a1 ∷ b1 ∷ a2 ∷ b2 ∷ []) }
+    requires { Withins (each offset_max 6 []) (a0 ∷ b0 ∷ a1 ∷ b1 ∷ a2 ∷ b2 ∷ []) }
     ensures { result ≡ component a0 b0 a1 b1 a2 b2 }
 {
     let a = a1 - a0;
@@ -135,7 +135,7 @@ fn component(a0: i64, b0: i64, a1: i64, b1: i64, a2: i64, b2: i64) -> i64
 
 // A triangle's normal.
 pub fn normal(t: Triangle) -> Point
-    requires { TriangleWithin offsetMax t }
+    requires { TriangleWithin offset_max t }
     ensures { result ≡ normal t }
 {
     let v0 = t.v0;
@@ -150,7 +150,7 @@ pub fn normal(t: Triangle) -> Point
 // A triangle, measured from the point `origin`.
 pub fn measured_from(origin: Point, t: Triangle) -> Triangle
     requires { BoundedPoint origin × BoundedTriangle t }
-    ensures { result ≡ measuredFrom origin t }
+    ensures { result ≡ measured_from origin t }
 {
     let v0 = difference(t.v0, origin);
     let v1 = difference(t.v1, origin);
@@ -171,7 +171,7 @@ fn difference(a: Point, b: Point) -> Point
 
 // The axes taken in turn: y, z, x.
 pub fn turned(p: Placed) -> Placed
-    ensures { result ≡ turnPlaced p }
+    ensures { result ≡ turn_placed p }
 {
     let t = turn_triangle(p.t);
     let n = turn(p.n);
@@ -182,7 +182,7 @@ pub fn turned(p: Placed) -> Placed
 
 // The same, of a triangle.
 fn turn_triangle(t: Triangle) -> Triangle
-    ensures { result ≡ turnTriangle t }
+    ensures { result ≡ turn_triangle t }
 {
     let v0 = turn(t.v0);
     let v1 = turn(t.v1);
@@ -192,7 +192,7 @@ fn turn_triangle(t: Triangle) -> Triangle
 
 // The same, of a point or a vector.
 fn turn(v: Point) -> Point
-    ensures { result ≡ turnPoint v }
+    ensures { result ≡ turn_point v }
 {
     Point {
         x: v.y,
@@ -203,7 +203,7 @@ fn turn(v: Point) -> Point
 
 // The same, of a box of cells.
 fn turn_box(b: BoxRange) -> BoxRange
-    ensures { result ≡ turnBox b }
+    ensures { result ≡ turn_box b }
 {
     let x = b.x;
     let y = b.y;
@@ -213,7 +213,7 @@ fn turn_box(b: BoxRange) -> BoxRange
 
 // The same, of the numbering.
 pub fn turn_strides(g: Strides) -> Strides
-    ensures { result ≡ turnStrides g }
+    ensures { result ≡ turn_strides g }
 {
     Strides {
         su: g.sv,

@@ -7,21 +7,21 @@ use mathlib.Core.Path.{◌≡◌, sym, ap, ◌∙◌}
 use Prim.Native.Nat.{ℕ, ◌+◌, ◌<◌, ◌≤◌}
 use native.Mathlib.Omega.{arith}
 use Rattle.refusal.specs.Limit.{refused}
-use Rattle.refusal.specs.Questions.{Question, ofEach}
+use Rattle.refusal.specs.Questions.{Question, of_each}
 use Rattle.refusal.specs.Inner.{passed, asked}
 use Rattle.refusal.proofs.Asking.{each_more, each-no}
 
 pub record Asking (q : ℕ → Question) (place : ℕ → ℕ) (n at k : ℕ) : Type 0 where
   pub low : k ≤ n
   pub is : at ≡ place k
-  pub yes : asked (ofEach q k) ≡ passed
+  pub yes : asked (of_each q k) ≡ passed
 
 module _ {q : ℕ → Question} {place : ℕ → ℕ} {n at k : ℕ} (a : Asking q place n at k) where
   pub ask-more : {next : ℕ} → k < n → (q k).holds ≡ true → next ≡ place (k + 1) → Asking q place n next (k + 1)
   ask-more h e i = record { low = omega arith; is = i; yes = each_more q k a.yes e }
 
-  pub ask-no : k < n → (q k).holds ≡ false → refused (q k).number (q k).place ≡ asked (ofEach q n)
+  pub ask-no : k < n → (q k).holds ≡ false → refused (q k).number (q k).place ≡ asked (of_each q n)
   ask-no h e = sym (each-no q k n h a.yes e)
 
-  pub ask-end : n ≤ k → passed ≡ asked (ofEach q n)
-  ask-end h = let same : k ≡ n = omega (arith, a.low) in sym a.yes ∙ ap (λ (i : ℕ). asked (ofEach q i)) same
+  pub ask-end : n ≤ k → passed ≡ asked (of_each q n)
+  ask-end h = let same : k ≡ n = omega (arith, a.low) in sym a.yes ∙ ap (λ (i : ℕ). asked (of_each q i)) same

@@ -12,17 +12,17 @@ use lib.ListN.{length, get_or, replicate}
 use Rattle.ply_header.specs.declared.Form.{Form}
 use Rattle.ply_header.specs.declared.Header.TheVariants.{Taken}
 use Rattle.ply_header.specs.Header.{header}
-use Rattle.ply.specs.Body.{facePlace, taken, index_at, isIndex, goodFace}
+use Rattle.ply.specs.Body.{face_place, taken, index_at, is_index, good_face}
 
-pub form-enough : (s : List ℕ) (f : Form) → header s ≡ Taken f → f.faces ≤ 4095 → facePlace s f f.faces ≡ length s → taken s ≡ Taken f
+pub form-enough : (s : List ℕ) (f : Form) → header s ≡ Taken f → f.faces ≤ 4095 → face_place s f f.faces ≡ length s → taken s ≡ Taken f
 unfolding taken
 form-enough s f e few end = rw (e, le-leb f.faces 4095 few, eq-eqb _ _ end)
 
 pub face-enough : (s : List ℕ) (n at : ℕ) → get_or s at 0 ≡ 3
-    → isIndex n (index_at s (at + 1)) ≡ true → isIndex n (index_at s (at + 5)) ≡ true → isIndex n (index_at s (at + 9)) ≡ true → goodFace s n at ≡ true
-unfolding goodFace
+    → is_index n (index_at s (at + 1)) ≡ true → is_index n (index_at s (at + 5)) ≡ true → is_index n (index_at s (at + 9)) ≡ true → good_face s n at ≡ true
+unfolding good_face
 face-enough s n at three a b c = rw (three, a, b, c)
 
-pub same-corner : goodFace (3 ∷ replicate 12 0x00) 1 0 ≡ true
-unfolding isIndex goodFace
+pub same-corner : good_face (3 ∷ replicate 12 0x00) 1 0 ≡ true
+unfolding is_index good_face
 same-corner = refl

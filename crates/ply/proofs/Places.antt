@@ -13,41 +13,41 @@ use native.Mathlib.Omega.{arith}
 use borrow.Author.Tests.{ne_eqb}
 use lib.Dec.{eqb}
 use lib.ListN.{length}
-use Rattle.ply.specs.Body.{behindFace, faceFrom}
+use Rattle.ply.specs.Body.{behind_face, face_from}
 
 module _ (s : List ℕ) (at : ℕ) where
-  pub next : (i : ℕ) → faceFrom s at (suc i) ≡ behindFace s (faceFrom s at i)
-  unfolding faceFrom
+  pub next : (i : ℕ) → face_from s at (suc i) ≡ behind_face s (face_from s at i)
+  unfolding face_from
   next i = refl
 
-  pub grows : (i n : ℕ) → i ≤ n → faceFrom s at i + (n - i) ≤ faceFrom s at n
+  pub grows : (i n : ℕ) → i ≤ n → face_from s at i + (n - i) ≤ face_from s at n
   grows i zero h = let same : i ≡ 0 = omega arith in rw same (omega arith)
   grows i (suc n) h = go (dec_lt i (suc n)) (grows i n)
     where
-      go : Dec (i < suc n) → (i ≤ n → faceFrom s at i + (n - i) ≤ faceFrom s at n) → faceFrom s at i + (suc n - i) ≤ faceFrom s at (suc n)
+      go : Dec (i < suc n) → (i ≤ n → face_from s at i + (n - i) ≤ face_from s at n) → face_from s at i + (suc n - i) ≤ face_from s at (suc n)
       go (yes l) ih = omega (arith, ih (omega arith), next n)
       go (no l) ih = let same : i ≡ suc n = omega arith in rw same (omega arith)
 
-  beyond : (i n : ℕ) → i ≤ n → length s < faceFrom s at i → false ≡ eqb (faceFrom s at n) (length s)
-  beyond i n h l = sym (ne_eqb (faceFrom s at n) (length s) (λ e. omega (arith, grows i n h, e)))
+  beyond : (i n : ℕ) → i ≤ n → length s < face_from s at i → false ≡ eqb (face_from s at n) (length s)
+  beyond i n h l = sym (ne_eqb (face_from s at n) (length s) (λ e. omega (arith, grows i n h, e)))
 
 -- ---- what the loop keeps
 pub record Walking (s : List ℕ) (at faces p i : ℕ) : Type 0 where
   pub low : i ≤ faces
-  pub is : p ≡ faceFrom s at i
+  pub is : p ≡ face_from s at i
 
 module _ {s : List ℕ} {at faces p i : ℕ} (w : Walking s at faces p i) where
-  onward : behindFace s p ≡ faceFrom s at (suc i)
-  onward = ap (behindFace s) w.is ∙ sym (next s at i)
+  onward : behind_face s p ≡ face_from s at (suc i)
+  onward = ap (behind_face s) w.is ∙ sym (next s at i)
 
-  pub walk-cut : i < faces → length s ≤ p → false ≡ eqb (faceFrom s at faces) (length s)
+  pub walk-cut : i < faces → length s ≤ p → false ≡ eqb (face_from s at faces) (length s)
   walk-cut h l = beyond s at (suc i) faces h (omega (arith, onward))
 
-  pub walk-over : i < faces → length s < behindFace s p → false ≡ eqb (faceFrom s at faces) (length s)
+  pub walk-over : i < faces → length s < behind_face s p → false ≡ eqb (face_from s at faces) (length s)
   walk-over h l = beyond s at (suc i) faces h (omega (arith, onward))
 
-  pub walk_more : {q : ℕ} → i < faces → q ≡ behindFace s p → Walking s at faces q (i + 1)
+  pub walk_more : {q : ℕ} → i < faces → q ≡ behind_face s p → Walking s at faces q (i + 1)
   walk_more h e = rw (add-one i) (record { low = h; is = e ∙ onward })
 
-  pub walk_end : faces ≤ i → eqb p (length s) ≡ eqb (faceFrom s at faces) (length s)
-  walk_end h = let same : i ≡ faces = omega (arith, w.low) in ap (λ (n : ℕ). eqb n (length s)) (w.is ∙ ap (faceFrom s at) same)
+  pub walk_end : faces ≤ i → eqb p (length s) ≡ eqb (face_from s at faces) (length s)
+  walk_end h = let same : i ≡ faces = omega (arith, w.low) in ap (λ (n : ℕ). eqb n (length s)) (w.is ∙ ap (face_from s at) same)

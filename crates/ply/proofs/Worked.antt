@@ -6,15 +6,15 @@ use mathlib.Core.List.{[], ◌∷◌}
 use mathlib.Core.Path.{◌≡◌, refl}
 use lib.IntN.{pos, negsuc}
 use lib.ListN.{replicate}
-use Rattle.ply.specs.Body.{faceFrom, index_at}
+use Rattle.ply.specs.Body.{face_from, index_at}
 
 -- ---- where the next face begins
-pub no-corners : faceFrom (0 ∷ []) 0 1 ≡ 1
-unfolding faceFrom
+pub no-corners : face_from (0 ∷ []) 0 1 ≡ 1
+unfolding face_from
 no-corners = refl
 
-pub most-corners : faceFrom (255 ∷ replicate 1020 0x00) 0 1 ≡ 1021
-unfolding faceFrom
+pub most-corners : face_from (255 ∷ replicate 1020 0x00) 0 1 ≡ 1021
+unfolding face_from
 most-corners = refl
 
 -- ---- indices

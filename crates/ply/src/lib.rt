@@ -1,8 +1,8 @@
 // A scanner's file in the PLY format: its length, its vertices and its faces, and the corners of a face.
 ghost use Rattle.std.specs.Prelude.{◌≡◌, ◌+◌, ◌<◌, ◌≤◌, eqb, length};
-ghost use Rattle.refusal.specs.Inner.{saidVerdict, asked};
-ghost use Rattle.refusal.specs.Questions.{ofEach};
-ghost use Rattle.ply.specs.Body.{behindFace, faceFrom, facePlace, bodyFits, taken, vertexQuestion, index_at, isIndex, goodFace, faceQuestion, cornerAt};
+ghost use Rattle.refusal.specs.Inner.{said_verdict, asked};
+ghost use Rattle.refusal.specs.Questions.{of_each};
+ghost use Rattle.ply.specs.Body.{behind_face, face_from, face_place, body_fits, taken, vertex_question, index_at, is_index, good_face, face_question, corner_at};
 ghost use Rattle.ply.specs.Inner.{Cornered};
 
 use ply_header::{Form, Header};
@@ -17,7 +17,7 @@ fn wide(b: u8) -> usize
 
 // Do so many faces from `at` on end exactly at the file's end?
 fn faces_fit(s: &[u8], at: usize, faces: usize) -> bool
-    ensures { result ≡ eqb (faceFrom s.now at faces) (length s.now) }
+    ensures { result ≡ eqb (face_from s.now at faces) (length s.now) }
 {
     let mut p = at;
     let mut i = 0;
@@ -38,7 +38,7 @@ fn faces_fit(s: &[u8], at: usize, faces: usize) -> bool
 
 // Do the vertices and the faces end exactly at the file's end?
 fn body_fits(s: &[u8], f: Form) -> bool
-    ensures { result ≡ bodyFits s.now f }
+    ensures { result ≡ body_fits s.now f }
 {
     let body = f.body;
     let vertices = f.vertices;
@@ -73,7 +73,7 @@ pub fn read(s: &[u8]) -> Header
 // Puts the question of limit 14 to each vertex of a file that was taken.
 pub fn check_vertices(s: &[u8], f: Form) -> Verdict
     requires { taken s.now ≡ Header.Taken f }
-    ensures { saidVerdict result ≡ asked (ofEach (vertexQuestion s.now f) f.vertices) }
+    ensures { said_verdict result ≡ asked (of_each (vertex_question s.now f) f.vertices) }
 {
     let bytes = ply_vertex::size(f);
     let vertices = f.vertices;
@@ -92,7 +92,7 @@ pub fn check_vertices(s: &[u8], f: Form) -> Verdict
 // Is the index at `at` that of one of n vertices? From 2^31 on it is negative.
 fn is_index(s: &[u8], n: usize, at: usize) -> bool
     requires { at + 4 ≤ length s.now }
-    ensures { result ≡ isIndex n (index_at s.now at) }
+    ensures { result ≡ is_index n (index_at s.now at) }
 {
     let index = ply_vertex::word(s, at);
     if index < 0x8000_0000 {
@@ -103,8 +103,8 @@ fn is_index(s: &[u8], n: usize, at: usize) -> bool
 
 // Has the face at `at` three corners, each one of n vertices?
 fn is_good(s: &[u8], n: usize, at: usize) -> bool
-    requires { (at < length s.now) × (behindFace s.now at ≤ length s.now) }
-    ensures { result ≡ goodFace s.now n at }
+    requires { (at < length s.now) × (behind_face s.now at ≤ length s.now) }
+    ensures { result ≡ good_face s.now n at }
 {
     if s[at] != 3 {
         return false;
@@ -121,7 +121,7 @@ fn is_good(s: &[u8], n: usize, at: usize) -> bool
 // Where the faces of a file that was taken begin.
 pub fn faces_start(s: &[u8], f: Form) -> usize
     requires { taken s.now ≡ Header.Taken f }
-    ensures { result ≡ facePlace s.now f 0 }
+    ensures { result ≡ face_place s.now f 0 }
 {
     let bytes = ply_vertex::size(f);
     f.body + f.vertices * bytes
@@ -130,7 +130,7 @@ pub fn faces_start(s: &[u8], f: Form) -> usize
 // Puts the question of limit 15 to each face of a file that was taken.
 pub fn check_faces(s: &[u8], f: Form) -> Verdict
     requires { taken s.now ≡ Header.Taken f }
-    ensures { saidVerdict result ≡ asked (ofEach (faceQuestion s.now f) f.faces) }
+    ensures { said_verdict result ≡ asked (of_each (face_question s.now f) f.faces) }
 {
     let mut at = faces_start(s, f);
     let mut k = 0;
@@ -155,7 +155,7 @@ pub struct Corner {
 // The corner whose index stands at `at`, of a file whose vertices passed.
 pub fn corner_at(s: &[u8], f: Form, at: usize) -> Corner
     requires { Cornered s.now f at }
-    ensures { result ≡ cornerAt s.now f at }
+    ensures { result ≡ corner_at s.now f at }
 {
     let index = ply_vertex::word(s, at) as usize;
     let bytes = ply_vertex::size(f);

@@ -18,46 +18,46 @@ use lib.Dec.{ltb, eqb}
 use lib.ListN.{length, get_or, drop, drop_of_length-le}
 use Rattle.ply_header.specs.declared.Found.{Found}
 use Rattle.ply_header.specs.declared.Found.TheVariants.{At, Absent}
-use Rattle.ply_header.specs.Text.{bytes, behind, stands, comment, past, pastComments}
-use Rattle.ply_header.specs.Inner.{foundThen, commentWord}
+use Rattle.ply_header.specs.Text.{bytes, behind, stands, comment, past, past_comments}
+use Rattle.ply_header.specs.Inner.{found_then, comment_word}
 use Rattle.ply_header.proofs.Texts.{more}
 
 -- ---- the word, and what stands behind it
 -- A text stands at a place if its two parts stand there, one behind the other.
-joined_step : (p q : Bool) (x y : Found) (f : ℕ → Found) → x ≡ foundThen y f → cond p (cond q x Absent) Absent ≡ foundThen (cond p (cond q y Absent) Absent) f
+joined_step : (p q : Bool) (x y : Found) (f : ℕ → Found) → x ≡ found_then y f → cond p (cond q x Absent) Absent ≡ found_then (cond p (cond q y Absent) Absent) f
 joined_step true true x y f e = e
 joined_step true false x y f e = refl
 joined_step false q x y f e = refl
 
-joined : (s : List ℕ) (at : ℕ) (a b : List ℕ) → behind s at (a ++ b) ≡ foundThen (behind s at a) (λ i. behind s i b)
+joined : (s : List ℕ) (at : ℕ) (a b : List ℕ) → behind s at (a ++ b) ≡ found_then (behind s at a) (λ i. behind s i b)
 unfolding behind
 joined s at [] b = refl
 joined s at (c ∷ a) b = joined_step (ltb at (length s)) (eqb (get_or s at 0) c) _ _ _ (joined s (at + 1) a b)
 
 -- A comment, by the place behind the word.
-told : (s : List ℕ) (at : ℕ) (f : Found) → behind s at (bytes "comment") ≡ f → comment s at ≡ stands (foundThen f (λ i. behind s i (10 ∷ []))) || stands (foundThen f (λ i. behind s i (32 ∷ [])))
+told : (s : List ℕ) (at : ℕ) (f : Found) → behind s at (bytes "comment") ≡ f → comment s at ≡ stands (found_then f (λ i. behind s i (10 ∷ []))) || stands (found_then f (λ i. behind s i (32 ∷ [])))
 unfolding comment
 told s at f e = rw (joined s at (bytes "comment") (10 ∷ []), joined s at (bytes "comment") (32 ∷ []), e)
 
-pub no_word : (s : List ℕ) (at : ℕ) → behind s at (bytes "comment") ≡ Absent → Absent ≡ commentWord s at
-unfolding commentWord
+pub no_word : (s : List ℕ) (at : ℕ) → behind s at (bytes "comment") ≡ Absent → Absent ≡ comment_word s at
+unfolding comment_word
 no_word s at e = rw (told s at Absent e)
 
 module _ (s : List ℕ) (at i : ℕ) (e : behind s at (bytes "comment") ≡ At i) where
-  pub cut : length s ≤ i → Absent ≡ commentWord s at
-  unfolding behind commentWord
+  pub cut : length s ≤ i → Absent ≡ comment_word s at
+  unfolding behind comment_word
   cut h = rw (told s at (At i) e, le-ltb i (length s) h)
 
-  pub feed : i < length s → get_or s i 0 ≡ 10 → At i ≡ commentWord s at
-  unfolding behind commentWord
+  pub feed : i < length s → get_or s i 0 ≡ 10 → At i ≡ comment_word s at
+  unfolding behind comment_word
   feed h k = sym (rw (told s at (At i) e, lt-ltb i (length s) h, k) e)
 
-  pub space : i < length s → get_or s i 0 ≡ 32 → At i ≡ commentWord s at
-  unfolding behind commentWord
+  pub space : i < length s → get_or s i 0 ≡ 32 → At i ≡ comment_word s at
+  unfolding behind comment_word
   space h k = sym (rw (told s at (At i) e, lt-ltb i (length s) h, k) e)
 
-  pub longer : i < length s → (get_or s i 0 ≡ 10 → ⊥) → (get_or s i 0 ≡ 32 → ⊥) → Absent ≡ commentWord s at
-  unfolding behind commentWord
+  pub longer : i < length s → (get_or s i 0 ≡ 10 → ⊥) → (get_or s i 0 ≡ 32 → ⊥) → Absent ≡ comment_word s at
+  unfolding behind comment_word
   longer h k m = rw (told s at (At i) e, lt-ltb i (length s) h, ne_eqb (get_or s i 0) 10 k, ne_eqb (get_or s i 0) 32 m)
 
 -- ---- from the word to behind it
@@ -67,8 +67,8 @@ if-step true Absent p = p refl
 if-step false f p = refl
 
 -- A comment begins where the word is found.
-if_word : (s : List ℕ) (at : ℕ) → comment s at ≡ stands (commentWord s at)
-unfolding commentWord
+if_word : (s : List ℕ) (at : ℕ) → comment s at ≡ stands (comment_word s at)
+unfolding comment_word
 if_word s at = if-step (comment s at) (behind s at (bytes "comment")) (told s at Absent)
 
 sure : (b : Bool) (f : Found) (j : ℕ) → cond b f Absent ≡ At j → (b ≡ true) × (f ≡ At j)
@@ -97,8 +97,8 @@ through s (c ∷ text) i j n e =
     let t = through s text (i + 1) j m.1 f.2 in
     (omega arith, rw (more s i f.0, f.1) (ap (λ (b : Bool). past s b (i + 1) (drop (i + 1) s)) m.0 ∙ t.1))
 
-pub passed : (s : List ℕ) (i j : ℕ) → commentWord s i ≡ At j → (i < j) × (past s false i (drop i s) ≡ past s true j (drop j s))
-unfolding commentWord past
+pub passed : (s : List ℕ) (i j : ℕ) → comment_word s i ≡ At j → (i < j) × (past s false i (drop i s) ≡ past s true j (drop j s))
+unfolding comment_word past
 passed s i j e =
     let f = first s i 99 (bytes "omment") j (sure (comment s i) _ j e).1 in
     let t = through s (bytes "omment") (i + 1) j refl f.2 in
@@ -106,10 +106,10 @@ passed s i j e =
 
 -- ---- the loop
 pub record Skipping (s : List ℕ) (at : ℕ) (inside : Bool) (i : ℕ) : Type 0 where
-  pub same : pastComments s at ≡ past s inside i (drop i s)
+  pub same : past_comments s at ≡ past s inside i (drop i s)
 
 pub begins : (s : List ℕ) (at : ℕ) → Skipping s at false at
-unfolding pastComments
+unfolding past_comments
 begins s at = record { same = refl }
 
 module _ {s : List ℕ} {at i : ℕ} {b : Bool} (r : Skipping s at b i) where
@@ -117,14 +117,14 @@ module _ {s : List ℕ} {at i : ℕ} {b : Bool} (r : Skipping s at b i) where
   unfolding past
   inside e h = record { same = r.same ∙ rw (e, more s i h) }
 
-  pub word : {j : ℕ} → b ≡ false → commentWord s i ≡ At j → Skipping s at true j
+  pub word : {j : ℕ} → b ≡ false → comment_word s i ≡ At j → Skipping s at true j
   word {j} e k = record { same = r.same ∙ rw e (passed s i j k).1 }
 
-  pub over : b ≡ false → i < length s → commentWord s i ≡ Absent → i ≡ pastComments s at
+  pub over : b ≡ false → i < length s → comment_word s i ≡ Absent → i ≡ past_comments s at
   unfolding past
   over e h k = sym (r.same ∙ rw (e, more s i h, if_word s i ∙ ap stands k))
 
-pub ends : {s : List ℕ} {at i : ℕ} (b : Bool) → Skipping s at b i → length s ≤ i → i ≡ pastComments s at
+pub ends : {s : List ℕ} {at i : ℕ} (b : Bool) → Skipping s at b i → length s ≤ i → i ≡ past_comments s at
 unfolding past
 ends {s} true r h = sym (r.same ∙ rw (drop_of_length-le s h))
 ends {s} false r h = sym (r.same ∙ rw (drop_of_length-le s h))

@@ -17,7 +17,7 @@ use borrow.Author.Tests.{leb-true, le-leb, lt-leb, ne_eqb}
 use lib.Dec.{leb, eqb}
 use lib.ListN.{length, get_or, drop, drop_of_length-le, get_or-eq_default}
 use Rattle.ply_header.specs.declared.Counted.TheVariants.{Count, NoCount}
-use Rattle.ply_header.specs.Text.{digit, countFrom, count}
+use Rattle.ply_header.specs.Text.{digit, count_from, count}
 use Rattle.ply_header.specs.Inner.{limited}
 use Rattle.ply_header.proofs.Texts.{more}
 
@@ -26,42 +26,42 @@ unfolding digit
 digit-within c h = let t = (and-eq-true_iff (leb 48 c) (leb c 57)).0 h in (leb-true 48 c t.0, leb-true c 57 t.1)
 
 -- Once a value is above the limit, what follows is no count.
-above_step : (n v at c : ℕ) (rest : List ℕ) (d f : Bool) → digit c ≡ d → eqb c 10 ≡ f → n < v → limited n (countFrom (v * 10 + (c - 48)) (at + 1) rest) ≡ NoCount → limited n (countFrom v at (c ∷ rest)) ≡ NoCount
-unfolding countFrom limited
+above_step : (n v at c : ℕ) (rest : List ℕ) (d f : Bool) → digit c ≡ d → eqb c 10 ≡ f → n < v → limited n (count_from (v * 10 + (c - 48)) (at + 1) rest) ≡ NoCount → limited n (count_from v at (c ∷ rest)) ≡ NoCount
+unfolding count_from limited
 above_step n v at c rest true f e g h ih = rw e ih
 above_step n v at c rest false true e g h ih = rw (e, g, lt-leb v n h)
 above_step n v at c rest false false e g h ih = rw (e, g)
 
-above : (n v at : ℕ) (rest : List ℕ) → n < v → limited n (countFrom v at rest) ≡ NoCount
-unfolding countFrom limited
+above : (n v at : ℕ) (rest : List ℕ) → n < v → limited n (count_from v at rest) ≡ NoCount
+unfolding count_from limited
 above n v at [] h = refl
 above n v at (c ∷ rest) h = above_step n v at c rest (digit c) (eqb c 10) refl refl h (above n (v * 10 + (c - 48)) (at + 1) rest (omega arith))
 
 pub record Counting (s : List ℕ) (at v i : ℕ) : Type 0 where
   pub room : v ≤ length s
-  pub same : limited (length s) (countFrom 0 at (drop at s)) ≡ limited (length s) (countFrom v i (drop i s))
+  pub same : limited (length s) (count_from 0 at (drop at s)) ≡ limited (length s) (count_from v i (drop i s))
 
 module _ {s : List ℕ} {at v i : ℕ} (r : Counting s at v i) where
-  pub cut : length s ≤ i → NoCount ≡ limited (length s) (countFrom 0 at (drop at s))
-  unfolding countFrom limited
+  pub cut : length s ≤ i → NoCount ≡ limited (length s) (count_from 0 at (drop at s))
+  unfolding count_from limited
   cut h = sym (r.same ∙ rw (drop_of_length-le s h))
 
   module _ (h : i < length s) where
-    pub feed : get_or s i 0 ≡ 10 → Count v (i + 1) ≡ limited (length s) (countFrom 0 at (drop at s))
-    unfolding digit countFrom limited
+    pub feed : get_or s i 0 ≡ 10 → Count v (i + 1) ≡ limited (length s) (count_from 0 at (drop at s))
+    unfolding digit count_from limited
     feed e = sym (r.same ∙ rw (more s i h, e, le-leb v (length s) r.room))
 
-    pub other : (get_or s i 0 ≡ 10 → ⊥) → digit (get_or s i 0) ≡ false → NoCount ≡ limited (length s) (countFrom 0 at (drop at s))
-    unfolding countFrom limited
+    pub other : (get_or s i 0 ≡ 10 → ⊥) → digit (get_or s i 0) ≡ false → NoCount ≡ limited (length s) (count_from 0 at (drop at s))
+    unfolding count_from limited
     other n e = sym (r.same ∙ rw (more s i h, e, ne_eqb (get_or s i 0) 10 n))
 
     module _ (e : digit (get_or s i 0) ≡ true) where
-      pub much : length s < v * 10 + (get_or s i 0 - 48) → NoCount ≡ limited (length s) (countFrom 0 at (drop at s))
-      unfolding countFrom
+      pub much : length s < v * 10 + (get_or s i 0 - 48) → NoCount ≡ limited (length s) (count_from 0 at (drop at s))
+      unfolding count_from
       much m = sym (r.same ∙ rw (more s i h, e) (above (length s) (v * 10 + (get_or s i 0 - 48)) (i + 1) (drop (i + 1) s) m))
 
       pub next : v * 10 + (get_or s i 0 - 48) ≤ length s → Counting s at (v * 10 + (get_or s i 0 - 48)) (i + 1)
-      unfolding countFrom
+      unfolding count_from
       next m = record { room = m; same = r.same ∙ rw (more s i h, e) }
 
 -- ---- the first character
@@ -74,6 +74,6 @@ module _ (s : List ℕ) (at : ℕ) where
   unfolding count limited
   no_digit e = rw e
 
-  pub some-digit : digit (get_or s at 0) ≡ true → limited (length s) (countFrom 0 at (drop at s)) ≡ limited (length s) (count s at)
+  pub some-digit : digit (get_or s at 0) ≡ true → limited (length s) (count_from 0 at (drop at s)) ≡ limited (length s) (count s at)
   unfolding count
   some-digit e = rw e

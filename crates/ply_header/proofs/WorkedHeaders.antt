@@ -8,12 +8,12 @@ use Prim.Native.String.{String}
 use Rattle.ply_header.specs.declared.Scalar.TheVariants.{Float, Double, Int}
 use Rattle.ply_header.specs.declared.Header.{Header}
 use Rattle.ply_header.specs.declared.Header.TheVariants.{Taken, Other}
-use Rattle.ply_header.specs.Text.{bytes, behind, comment, past, pastComments, line, digit, countFrom, count, counted}
-use Rattle.ply_header.specs.Header.{scalar, axis, and_then, andCount, andAxis, header}
+use Rattle.ply_header.specs.Text.{bytes, behind, comment, past, past_comments, line, digit, count_from, count, counted}
+use Rattle.ply_header.specs.Header.{scalar, axis, and_then, and_count, and_axis, header}
 
 -- What a header is computed by, all of it unfolded.
 unfoldable pub header-parts : Unit {0}
-unfolding digit behind comment past pastComments line countFrom count counted scalar axis and_then andCount andAxis header
+unfolding digit behind comment past past_comments line count_from count counted scalar axis and_then and_count and_axis header
 header-parts = tt
 
 -- ---- a header whose first lines differ

@@ -24,9 +24,9 @@ use Rattle.ply_header.specs.declared.Counted.TheVariants.{Count}
 use Rattle.ply_header.specs.declared.Axis.{Axis}
 use Rattle.ply_header.specs.declared.Axis.TheVariants.{Typed}
 use Rattle.ply_header.specs.declared.Header.TheVariants.{Taken}
-use Rattle.ply_header.specs.Text.{bytes, behind, comment, past, pastComments, line, digit, countFrom, count, counted}
-use Rattle.ply_header.specs.Header.{scalar, axis, and_then, andCount, andAxis, header}
-use Rattle.ply_header.specs.Format.{name_of, Spells, one, more, headerText}
+use Rattle.ply_header.specs.Text.{bytes, behind, comment, past, past_comments, line, digit, count_from, count, counted}
+use Rattle.ply_header.specs.Header.{scalar, axis, and_then, and_count, and_axis, header}
+use Rattle.ply_header.specs.Format.{name_of, Spells, one, more, header_text}
 
 -- ---- what a file holds from a place on
 record Stand (s : List ℕ) (at : ℕ) (rest : List ℕ) : Type 0 where
@@ -62,8 +62,8 @@ unfolding behind
 absent {s} {at = at} d text h e = rw (lt-ltb at (length s) (within h), here h, e)
 
 -- a line begins there that is no comment: 99 is `c`
-no-comment : {s rest : List ℕ} {at c : ℕ} → Stand s at (c ∷ rest) → eqb c 99 ≡ false → pastComments s at ≡ at
-unfolding comment past pastComments
+no-comment : {s rest : List ℕ} {at c : ℕ} → Stand s at (c ∷ rest) → eqb c 99 ≡ false → past_comments s at ≡ at
+unfolding comment past past_comments
 no-comment h e = rw (h.is, absent 99 (bytes "omment\n") h e, absent 99 (bytes "omment ") h e)
 
 -- ---- what is found, and what the file holds behind it
@@ -93,19 +93,19 @@ module _ {s : List ℕ} where
 
 -- ---- counts
 -- one digit more
-digit-more : (v d at : ℕ) (rest : List ℕ) → d < 10 → countFrom v at ((48 + d) ∷ rest) ≡ countFrom (v * 10 + d) (at + 1) rest
-unfolding countFrom digit
+digit-more : (v d at : ℕ) (rest : List ℕ) → d < 10 → count_from v at ((48 + d) ∷ rest) ≡ count_from (v * 10 + d) (at + 1) rest
+unfolding count_from digit
 digit-more v d at rest h =
-    rw (le-leb 48 (48 + d) (omega arith), le-leb (48 + d) 57 (omega arith)) (ap (λ (x : ℕ). countFrom (v * 10 + x) (at + 1) rest) (omega arith))
+    rw (le-leb 48 (48 + d) (omega arith), le-leb (48 + d) 57 (omega arith)) (ap (λ (x : ℕ). count_from (v * 10 + x) (at + 1) rest) (omega arith))
 
 -- the digits of n
-spelt_back : {ds : List ℕ} {n : ℕ} → Spells ds n → (at : ℕ) (rest : List ℕ) → countFrom 0 at (ds ++ rest) ≡ countFrom n (at + length ds) rest
-spelt_back (one d l) at rest = digit-more 0 d at rest l ∙ ap (λ (v : ℕ). countFrom v (at + 1) rest) (omega arith)
+spelt_back : {ds : List ℕ} {n : ℕ} → Spells ds n → (at : ℕ) (rest : List ℕ) → count_from 0 at (ds ++ rest) ≡ count_from n (at + length ds) rest
+spelt_back (one d l) at rest = digit-more 0 d at rest l ∙ ap (λ (v : ℕ). count_from v (at + 1) rest) (omega arith)
 spelt_back (more {ds} {n} d l h) at rest =
-    ap (countFrom 0 at) (append_assoc ds ((48 + d) ∷ []) rest)
+    ap (count_from 0 at) (append_assoc ds ((48 + d) ∷ []) rest)
     ∙ spelt_back h at ((48 + d) ∷ rest)
     ∙ digit-more n d (at + length ds) rest l
-    ∙ ap (λ (i : ℕ). countFrom (n * 10 + d) i rest) (omega (arith, length-append ds ((48 + d) ∷ [])))
+    ∙ ap (λ (i : ℕ). count_from (n * 10 + d) i rest) (omega (arith, length-append ds ((48 + d) ∷ [])))
 
 -- the first of them
 first-digit : {ds : List ℕ} {n : ℕ} → Spells ds n → (rest : List ℕ) → digit (get_or (ds ++ rest) 0 0) ≡ true
@@ -115,7 +115,7 @@ first-digit (more {ds} d l h) rest = ap (λ (t : List ℕ). digit (get_or t 0 0)
 
 module _ {s : List ℕ} where
   count_at : {at : ℕ} {ds : List ℕ} {n : ℕ} (said : Spells ds n) (rest : List ℕ) → Stand s at (ds ++ 10 ∷ rest) → count s at ≡ Count n (at + length ds + 1)
-  unfolding count countFrom digit
+  unfolding count count_from digit
   count_at {at} {ds} said rest h =
       let first : get_or s at 0 ≡ get_or (ds ++ 10 ∷ rest) 0 0 = ap (λ (i : ℕ). get_or s i 0) (omega arith) ∙ sym (get_or-drop at s 0 0) ∙ ap (λ (l : List ℕ). get_or l 0 0) h.is in
       rw (ap digit first ∙ first-digit said (10 ∷ rest), h.is) (spelt_back said at (10 ∷ rest))
@@ -163,7 +163,7 @@ whole : (s : List ℕ) {a b c d e f g h body n k : ℕ} {x y z : Scalar}
     → line s g (bytes "property list uchar int vertex_indices\n") ≡ At h
     → line s h (bytes "end_header\n") ≡ At body
     → header s ≡ Taken (record { x = x; y = y; z = z; vertices = n; faces = k; body = body })
-unfolding and_then andCount andAxis header
+unfolding and_then and_count and_axis header
 whole s p q r t u v w j l = rw (p, q, r, t, u, v, w, j, l)
 
 -- its parts, bracketed as they are read
@@ -210,11 +210,11 @@ module _ (x y z : Scalar) {vs fs : List ℕ} {n k : ℕ} (v : Spells vs n) (f : 
         next = j.next;
       }
 
-  pub header-back : header (headerText x y z vs fs ++ rest)
-      ≡ Taken (record { x = x; y = y; z = z; vertices = n; faces = k; body = length (headerText x y z vs fs) })
-  unfolding headerText
+  pub header-back : header (header_text x y z vs fs ++ rest)
+      ≡ Taken (record { x = x; y = y; z = z; vertices = n; faces = k; body = length (header_text x y z vs fs) })
+  unfolding header_text
   header-back =
-      let text = headerText x y z vs fs in
+      let text = header_text x y z vs fs in
       let start =
       regroup (bytes "ply\n") (bytes "format binary_little_endian 1.0\n") (bytes "element vertex ") vs (bytes "\n")
       (bytes "property ") (name_of x) (bytes " x\n") (name_of y) (bytes " y\n") (name_of z) (bytes " z\n")

@@ -16,8 +16,8 @@ pub data Spells : (digits : List ℕ) → ℕ → Type 0 where
   more : {ds : List ℕ} {n : ℕ} (d : ℕ) → d < 10 → Spells ds n → Spells (ds ++ (48 + d) ∷ []) (n * 10 + d)
 
 -- The header of these types and counts, line by line, with no comment.
-unfoldable pub headerText : (x y z : Scalar) (vertices faces : List ℕ) → List ℕ
-headerText x y z vertices faces =
+unfoldable pub header_text : (x y z : Scalar) (vertices faces : List ℕ) → List ℕ
+header_text x y z vertices faces =
     bytes "ply\n"
     ++ bytes "format binary_little_endian 1.0\n"
     ++ bytes "element vertex " ++ vertices ++ bytes "\n"

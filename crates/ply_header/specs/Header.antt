@@ -27,21 +27,21 @@ scalar s at =
     NoAxis))
 
 -- What comes next, where a text stands; else no property.
-abbrev pub axisThen : Found → (ℕ → Axis) → Axis
-axisThen (At i) next = next i
-axisThen Absent next = NoAxis
+abbrev pub axis_then : Found → (ℕ → Axis) → Axis
+axis_then (At i) next = next i
+axis_then Absent next = NoAxis
 
 -- What comes next, where there is a scalar type; else no property.
-abbrev pub axisTyped : Axis → (Scalar → ℕ → Axis) → Axis
-axisTyped (Typed t i) next = next t i
-axisTyped NoAxis next = NoAxis
+abbrev pub axis_typed : Axis → (Scalar → ℕ → Axis) → Axis
+axis_typed (Typed t i) next = next t i
+axis_typed NoAxis next = NoAxis
 
 -- The next line that is no comment, as a property of a name. Each axis has its own scalar type.
 unfoldable pub axis : (s : List ℕ) (at : ℕ) (name : List ℕ) → Axis
 axis s at name =
-    axisThen (line s at (bytes "property ")) λ a.
-    axisTyped (scalar s a) λ t b.
-    axisThen (behind s b name) λ c.
+    axis_then (line s at (bytes "property ")) λ a.
+    axis_typed (scalar s a) λ t b.
+    axis_then (behind s b name) λ c.
     Typed t c
 
 -- ---- the header
@@ -51,25 +51,25 @@ and_then (At i) next = next i
 and_then Absent next = Other
 
 -- What comes next, where there is a count; else another form.
-unfoldable pub andCount : Counted → (ℕ → ℕ → Header) → Header
-andCount (Count n i) next = next n i
-andCount NoCount next = Other
+unfoldable pub and_count : Counted → (ℕ → ℕ → Header) → Header
+and_count (Count n i) next = next n i
+and_count NoCount next = Other
 
 -- What comes next, where there is a property; else another form.
-unfoldable pub andAxis : Axis → (Scalar → ℕ → Header) → Header
-andAxis (Typed t i) next = next t i
-andAxis NoAxis next = Other
+unfoldable pub and_axis : Axis → (Scalar → ℕ → Header) → Header
+and_axis (Typed t i) next = next t i
+and_axis NoAxis next = Other
 
 -- The lines in order. Comments may stand before each but the first, and anything else is another form.
 unfoldable pub header : (s : List ℕ) → Header
 header s =
     and_then (behind s 0 (bytes "ply\n")) λ a.
     and_then (line s a (bytes "format binary_little_endian 1.0\n")) λ b.
-    andCount (counted s b (bytes "element vertex ")) λ vertices c.
-    andAxis (axis s c (bytes "x\n")) λ x d.
-    andAxis (axis s d (bytes "y\n")) λ y e.
-    andAxis (axis s e (bytes "z\n")) λ z f.
-    andCount (counted s f (bytes "element face ")) λ faces g.
+    and_count (counted s b (bytes "element vertex ")) λ vertices c.
+    and_axis (axis s c (bytes "x\n")) λ x d.
+    and_axis (axis s d (bytes "y\n")) λ y e.
+    and_axis (axis s e (bytes "z\n")) λ z f.
+    and_count (counted s f (bytes "element face ")) λ faces g.
     and_then (line s g (bytes "property list uchar int vertex_indices\n")) λ h.
     and_then (line s h (bytes "end_header\n")) λ body.
     Taken (record { x = x; y = y; z = z; vertices = vertices; faces = faces; body = body })

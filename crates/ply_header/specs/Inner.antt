@@ -26,36 +26,36 @@ limited n (Count v i) = cond (leb v n) (Count v i) NoCount
 limited n NoCount = NoCount
 
 -- Where a comment line begins, the place behind the word `comment`.
-unfoldable pub commentWord : (s : List ℕ) (at : ℕ) → Found
-commentWord s at = cond (comment s at) (behind s at (bytes "comment")) Absent
+unfoldable pub comment_word : (s : List ℕ) (at : ℕ) → Found
+comment_word s at = cond (comment s at) (behind s at (bytes "comment")) Absent
 
 -- ---- groups of lines
 -- What comes next, where a text stands.
-abbrev pub foundThen : Found → (ℕ → Found) → Found
-foundThen (At i) next = next i
-foundThen Absent next = Absent
+abbrev pub found_then : Found → (ℕ → Found) → Found
+found_then (At i) next = next i
+found_then Absent next = Absent
 
 -- The first line, and the format's.
 unfoldable pub opening : (s : List ℕ) → Found
 opening s =
-    foundThen (behind s 0 (bytes "ply\n")) λ a.
+    found_then (behind s 0 (bytes "ply\n")) λ a.
     line s a (bytes "format binary_little_endian 1.0\n")
 
 -- What comes next, where there is a property.
-abbrev pub axesThen : Axis → (Scalar → ℕ → Axes) → Axes
-axesThen (Typed t i) next = next t i
-axesThen NoAxis next = NoAxes
+abbrev pub axes_then : Axis → (Scalar → ℕ → Axes) → Axes
+axes_then (Typed t i) next = next t i
+axes_then NoAxis next = NoAxes
 
 -- The properties of a vertex.
 unfoldable pub axes : (s : List ℕ) (at : ℕ) → Axes
 axes s at =
-    axesThen (axis s at (bytes "x\n")) λ x a.
-    axesThen (axis s a (bytes "y\n")) λ y b.
-    axesThen (axis s b (bytes "z\n")) λ z c.
+    axes_then (axis s at (bytes "x\n")) λ x a.
+    axes_then (axis s a (bytes "y\n")) λ y b.
+    axes_then (axis s b (bytes "z\n")) λ z c.
     AllTyped x y z c
 
 -- The property of a face, and the last line.
 unfoldable pub closing : (s : List ℕ) (at : ℕ) → Found
 closing s at =
-    foundThen (line s at (bytes "property list uchar int vertex_indices\n")) λ a.
+    found_then (line s at (bytes "property list uchar int vertex_indices\n")) λ a.
     line s a (bytes "end_header\n")

@@ -37,12 +37,12 @@ past s true at (c ∷ rest) = past s (not (eqb c 10)) (at + 1) rest
 past s false at (c ∷ rest) = cond (comment s at) (past s true (at + 1) rest) at
 
 -- The place behind the comments that begin at the start of a line.
-unfoldable pub pastComments : (s : List ℕ) (at : ℕ) → ℕ
-pastComments s at = past s false at (drop at s)
+unfoldable pub past_comments : (s : List ℕ) (at : ℕ) → ℕ
+past_comments s at = past s false at (drop at s)
 
 -- Where the next line that is no comment begins with a text, the place behind the text.
 unfoldable pub line : (s : List ℕ) (at : ℕ) (text : List ℕ) → Found
-line s at text = behind s (pastComments s at) text
+line s at text = behind s (past_comments s at) text
 
 -- ---- counts
 -- A decimal digit.
@@ -51,19 +51,19 @@ digit c = leb 48 c && leb c 57
 
 -- Digits and a line feed, behind digits that say v: the number, and the place behind. The last argument is what the file
 -- holds from `at` on.
-unfoldable pub countFrom : (v at : ℕ) → List ℕ → Counted
-countFrom v at [] = NoCount
-countFrom v at (c ∷ rest) = cond (digit c) (countFrom (v * 10 + (c - 48)) (at + 1) rest) (cond (eqb c 10) (Count v (at + 1)) NoCount)
+unfoldable pub count_from : (v at : ℕ) → List ℕ → Counted
+count_from v at [] = NoCount
+count_from v at (c ∷ rest) = cond (digit c) (count_from (v * 10 + (c - 48)) (at + 1) rest) (cond (eqb c 10) (Count v (at + 1)) NoCount)
 
 -- A count is one or more decimal digits, leading zeros allowed; its line ends there.
 unfoldable pub count : (s : List ℕ) (at : ℕ) → Counted
-count s at = cond (digit (get_or s at 0)) (countFrom 0 at (drop at s)) NoCount
+count s at = cond (digit (get_or s at 0)) (count_from 0 at (drop at s)) NoCount
 
 -- A count behind a text, where the text stands.
-abbrev pub countAt : (s : List ℕ) → Found → Counted
-countAt s (At i) = count s i
-countAt s Absent = NoCount
+abbrev pub count_at : (s : List ℕ) → Found → Counted
+count_at s (At i) = count s i
+count_at s Absent = NoCount
 
 -- The next line that is no comment, as a text and a count.
 unfoldable pub counted : (s : List ℕ) (at : ℕ) (text : List ℕ) → Counted
-counted s at text = countAt s (line s at text)
+counted s at text = count_at s (line s at text)

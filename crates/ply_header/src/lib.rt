@@ -1,8 +1,8 @@
 // The header of a PLY file, read line by line in one pass.
 ghost use Rattle.std.specs.Prelude.{[], ◌∷◌, ◌≡◌, length, drop};
-ghost use Rattle.ply_header.specs.Text.{behind, pastComments, line, digit, countFrom, count, counted};
+ghost use Rattle.ply_header.specs.Text.{behind, past_comments, line, digit, count_from, count, counted};
 ghost use Rattle.ply_header.specs.Header.{scalar, axis, header};
-ghost use Rattle.ply_header.specs.Inner.{roomy, commentWord, limited, opening, axes, closing};
+ghost use Rattle.ply_header.specs.Inner.{roomy, comment_word, limited, opening, axes, closing};
 
 // The scalar types of PLY that a coordinate may have.
 #[derive(Drop)]
@@ -181,7 +181,7 @@ fn read_count(s: &[u8], at: usize) -> Counted
 
 // Digits, and a line feed.
 fn read_digits(s: &[u8], at: usize) -> Counted
-    ensures { result ≡ limited (length s.now) (countFrom 0 at (drop at s.now)) }
+    ensures { result ≡ limited (length s.now) (count_from 0 at (drop at s.now)) }
 {
     let mut v: usize = 0;
     let mut i = at;
@@ -225,7 +225,7 @@ fn read_line(s: &[u8], at: usize, text: &[u8]) -> Found
 
 // The place behind the comment lines that begin at a place.
 fn skip_comments(s: &[u8], at: usize) -> usize
-    ensures { result ≡ pastComments s.now at }
+    ensures { result ≡ past_comments s.now at }
 {
     let mut inside = false;
     let mut i = at;
@@ -246,7 +246,7 @@ fn skip_comments(s: &[u8], at: usize) -> usize
 
 // The place behind the word `comment`, where a comment line begins at a place.
 fn comment_word(s: &[u8], at: usize) -> Found
-    ensures { result ≡ commentWord s.now at }
+    ensures { result ≡ comment_word s.now at }
 {
     let Found::At(i) = read_word(s, at, b"comment") else {
         return Found::Absent;

@@ -12,20 +12,20 @@ use native.Mathlib.Omega.{arith}
 use lib.ListN.{get_or}
 use Rattle.rounding.specs.declared.Number.{Number}
 use Rattle.rounding.specs.declared.Vertex.{Vertex}
-use Rattle.rounding.specs.Rounding.{roundedOf, isWhole}
-use Rattle.rounding.specs.Widening.{widenedVertex}
+use Rattle.rounding.specs.Rounding.{rounded_of, is_whole}
+use Rattle.rounding.specs.Widening.{widened_vertex}
 use Rattle.ply_header.specs.declared.Form.{Form}
-use Rattle.ply_vertex.specs.Vertex.{littleEndian, width_of, number_at, size_of, vertexAt, placed}
+use Rattle.ply_vertex.specs.Vertex.{little_endian, width_of, number_at, size_of, vertex_at, placed}
 
 module _ (s : List ℕ) (at : ℕ) where
-  pub word-is : get_or s at 0 + get_or s (at + 1) 0 * 256 + get_or s (at + 2) 0 * 65536 + get_or s (at + 3) 0 * 16777216 ≡ littleEndian s at 4
+  pub word-is : get_or s at 0 + get_or s (at + 1) 0 * 256 + get_or s (at + 2) 0 * 65536 + get_or s (at + 3) 0 * 16777216 ≡ little_endian s at 4
   word-is = let first : get_or s (at + 0) 0 ≡ get_or s at 0 = ap (λ (p : ℕ). get_or s p 0) (omega arith) in omega arith
 
   -- byte 4 + n
   next : (n : ℕ) → get_or s (at + 4 + n) 0 ≡ get_or s (at + (4 + n)) 0
   next n = ap (λ (p : ℕ). get_or s p 0) (omega arith)
 
-  pub long-is : littleEndian s at 4 + littleEndian s (at + 4) 4 * 4294967296 ≡ littleEndian s at 8
+  pub long-is : little_endian s at 4 + little_endian s (at + 4) 4 * 4294967296 ≡ little_endian s at 8
   long-is = omega (arith, next 0, next 1, next 2, next 3)
 
 -- ---- the numbers of a vertex
@@ -43,20 +43,20 @@ module _ (f : Form) (at : ℕ) {n : ℕ} (h : at + size_of f ≤ n) where
   third-in e e' = omega arith
 
 pub vertex-is : (s : List ℕ) (f : Form) (at : ℕ) {a b : ℕ} {x y z : Number} → a ≡ width_of f.x → b ≡ width_of f.y
-    → x ≡ number_at f.x s at → y ≡ number_at f.y s (at + a) → z ≡ number_at f.z s (at + a + b) → widenedVertex x y z ≡ vertexAt s f at
-unfolding vertexAt
+    → x ≡ number_at f.x s at → y ≡ number_at f.y s (at + a) → z ≡ number_at f.z s (at + a + b) → widened_vertex x y z ≡ vertex_at s f at
+unfolding vertex_at
 vertex-is s f at ea eb px py pz =
-    λ i. widenedVertex (px i) ((py ∙ ap (λ (w : ℕ). number_at f.y s (at + w)) ea) i) ((pz ∙ (λ j. number_at f.z s (at + ea j + eb j))) i)
+    λ i. widened_vertex (px i) ((py ∙ ap (λ (w : ℕ). number_at f.y s (at + w)) ea) i) ((pz ∙ (λ j. number_at f.z s (at + ea j + eb j))) i)
 
 -- ---- each number of a vertex that is placed
 pub record Three (v : Vertex) : Type 0 where
-  pub x : isWhole (roundedOf v.x) ≡ true
-  pub y : isWhole (roundedOf v.y) ≡ true
-  pub z : isWhole (roundedOf v.z) ≡ true
+  pub x : is_whole (rounded_of v.x) ≡ true
+  pub y : is_whole (rounded_of v.y) ≡ true
+  pub z : is_whole (rounded_of v.z) ≡ true
 
 pub placed-three : (v : Vertex) → placed v ≡ true → Three v
 unfolding placed
 placed-three v e =
-    let p = (and-eq-true_iff (isWhole (roundedOf v.x) && isWhole (roundedOf v.y)) (isWhole (roundedOf v.z))).0 e in
-    let q = (and-eq-true_iff (isWhole (roundedOf v.x)) (isWhole (roundedOf v.y))).0 p.0 in
+    let p = (and-eq-true_iff (is_whole (rounded_of v.x) && is_whole (rounded_of v.y)) (is_whole (rounded_of v.z))).0 e in
+    let q = (and-eq-true_iff (is_whole (rounded_of v.x)) (is_whole (rounded_of v.y))).0 p.0 in
     record { x = q.0; y = q.1; z = p.1 }

@@ -17,13 +17,13 @@ use lib.IntN.{ℤ, pos, negsuc, ◌-ℤ◌}
 use mir.Syntax.{w32, w64}
 use mir.Val.{SFits, to_z, of_z}
 use mir.ValLaws.{to_z_pos, to_z-of_z}
-use Rattle.bits.specs.Field.{twosComplement}
-use Rattle.rounding.specs.Rounding.{roundedOf, isWhole}
-use Rattle.rounding.specs.Widening.{widenedOf}
+use Rattle.bits.specs.Field.{twos_complement}
+use Rattle.rounding.specs.Rounding.{rounded_of, is_whole}
+use Rattle.rounding.specs.Widening.{widened_of}
 use Rattle.ply_header.specs.declared.Scalar.{Scalar}
 use Rattle.ply_header.specs.declared.Scalar.TheVariants.{Float, Double, Int}
-use Rattle.ply_vertex.specs.Vertex.{littleEndian, number_at}
-use Rattle.ply_vertex.specs.Inner.{nanAt}
+use Rattle.ply_vertex.specs.Vertex.{little_endian, number_at}
+use Rattle.ply_vertex.specs.Inner.{nan_at}
 
 -- ---- not a number
 pub nan-of : (f : Format) (n : ℕ) → ltb (ones f * hid f) (n % top f) ≡ is_nan (of_bits f n)
@@ -33,31 +33,31 @@ pub not-nan : (f : Format) (n : ℕ) → is_nan (of_bits f n) ≡ false → T (n
 not-nan f n e = subst (λ (b : Bool). T (not b)) (sym (nan_bits_is f n ∙ e)) tt
 
 -- what is not a number is not rounded to one
-nan-float : (x : F) → is_nan x ≡ true → false ≡ isWhole (roundedOf x)
+nan-float : (x : F) → is_nan x ≡ true → false ≡ is_whole (rounded_of x)
 unfolding is_nan
 nan-float nan e = refl
 nan-float (inf s) e = refl
 nan-float (fin s m k) e = absurd (true≢false (sym e))
 
-float-nan : (x : F) → isWhole (roundedOf x) ≡ true → is_nan x ≡ false
+float-nan : (x : F) → is_whole (rounded_of x) ≡ true → is_nan x ≡ false
 unfolding is_nan
 float-nan nan e = absurd (true≢false (sym e))
 float-nan (inf s) e = refl
 float-nan (fin s m k) e = refl
 
 module _ (s : List ℕ) (at : ℕ) where
-  pub nan-no : (t : Scalar) → nanAt t s at ≡ true → false ≡ isWhole (roundedOf (widenedOf (number_at t s at)))
-  nan-no Float e = nan-float (of_bits binary32 (littleEndian s at 4)) e
-  nan-no Double e = nan-float (of_bits binary64 (littleEndian s at 8)) e
+  pub nan-no : (t : Scalar) → nan_at t s at ≡ true → false ≡ is_whole (rounded_of (widened_of (number_at t s at)))
+  nan-no Float e = nan-float (of_bits binary32 (little_endian s at 4)) e
+  nan-no Double e = nan-float (of_bits binary64 (little_endian s at 8)) e
   nan-no Int e = absurd (true≢false (sym e))
 
-  pub whole-yes : (t : Scalar) → isWhole (roundedOf (widenedOf (number_at t s at))) ≡ true → nanAt t s at ≡ false
-  whole-yes Float e = float-nan (of_bits binary32 (littleEndian s at 4)) e
-  whole-yes Double e = float-nan (of_bits binary64 (littleEndian s at 8)) e
+  pub whole-yes : (t : Scalar) → is_whole (rounded_of (widened_of (number_at t s at))) ≡ true → nan_at t s at ≡ false
+  whole-yes Float e = float-nan (of_bits binary32 (little_endian s at 4)) e
+  whole-yes Double e = float-nan (of_bits binary64 (little_endian s at 8)) e
   whole-yes Int e = refl
 
 -- ---- two's complement
-pub low-is : {n : ℕ} → n < 2147483648 → to_z w32 n ≡ twosComplement 32 n
+pub low-is : {n : ℕ} → n < 2147483648 → to_z w32 n ≡ twos_complement 32 n
 low-is {n} h = to_z_pos w32 n h ∙ rw (lt-ltb n 2147483648 h)
 
 module _ {n : ℕ} (h : 2147483648 ≤ n) (top : n < 4294967296) where
@@ -78,5 +78,5 @@ module _ {n : ℕ} (h : 2147483648 ≤ n) (top : n < 4294967296) where
   pub high_fits : SFits w32 (to_z w64 (of_z w64 less))
   high_fits = subst (λ (z : ℤ). SFits w32 z) (sym high-wide) (record { sfits = omega arith })
 
-  pub high_is : to_z w32 (of_z w32 (to_z w64 (of_z w64 less))) ≡ twosComplement 32 n
+  pub high_is : to_z w32 (of_z w32 (to_z w64 (of_z w64 less))) ≡ twos_complement 32 n
   high_is = to_z-of_z w32 (to_z w64 (of_z w64 less)) high_fits ∙ high-wide ∙ rw (le-ltb n 2147483648 h, lt-ltb n 4294967296 top) (ap negsuc (omega arith))

@@ -11,7 +11,7 @@ use Rattle.rounding.specs.declared.Number.TheVariants as N
 use Rattle.ply_header.specs.declared.Scalar.{Scalar}
 use Rattle.ply_header.specs.declared.Scalar.TheVariants.{Float, Double, Int}
 use Rattle.ply_header.specs.declared.Form.{Form}
-use Rattle.ply_vertex.specs.Vertex.{number_at, size_of, vertexAt}
+use Rattle.ply_vertex.specs.Vertex.{number_at, size_of, vertex_at}
 
 abbrev form : (x y z : Scalar) → Form
 form x y z = record { x = x; y = y; z = z; vertices = 0; faces = 0; body = 0 }
@@ -38,9 +38,9 @@ unfolding size_of
 doubles = refl
 
 -- ---- where each number stands
-pub one-two-three : vertexAt (1 ∷ 0 ∷ 0 ∷ 0 ∷ 2 ∷ 0 ∷ 0 ∷ 0 ∷ 3 ∷ 0 ∷ 0 ∷ 0 ∷ []) (form Int Int Int) 0
+pub one-two-three : vertex_at (1 ∷ 0 ∷ 0 ∷ 0 ∷ 2 ∷ 0 ∷ 0 ∷ 0 ∷ 3 ∷ 0 ∷ 0 ∷ 0 ∷ []) (form Int Int Int) 0
     ≡ record { x = of_int binary64 (pos 1); y = of_int binary64 (pos 2); z = of_int binary64 (pos 3) }
-unfolding vertexAt
+unfolding vertex_at
 one-two-three = refl
 
 -- ---- ints

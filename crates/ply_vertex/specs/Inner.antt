@@ -4,9 +4,9 @@ use Rattle.std.specs.Float.{binary32, binary64}
 use Rattle.std.specs.Float.Ieee.{of_bits, is_nan}
 use Rattle.ply_header.specs.declared.Scalar.{Scalar}
 use Rattle.ply_header.specs.declared.Scalar.TheVariants.{Float, Double, Int}
-use Rattle.ply_vertex.specs.Vertex.{littleEndian}
+use Rattle.ply_vertex.specs.Vertex.{little_endian}
 
-abbrev pub nanAt : Scalar → List ℕ → ℕ → Bool
-nanAt Float s at = is_nan (of_bits binary32 (littleEndian s at 4))
-nanAt Double s at = is_nan (of_bits binary64 (littleEndian s at 8))
-nanAt Int s at = false
+abbrev pub nan_at : Scalar → List ℕ → ℕ → Bool
+nan_at Float s at = is_nan (of_bits binary32 (little_endian s at 4))
+nan_at Double s at = is_nan (of_bits binary64 (little_endian s at 8))
+nan_at Int s at = false

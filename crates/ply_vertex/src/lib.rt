@@ -1,10 +1,10 @@
 // The numbers of a PLY body, the lowest byte first, and its vertices.
 ghost use Rattle.std.specs.Prelude.{true, false, ◌≡◌, ◌+◌, ◌*◌, ◌<◌, ◌≤◌, length};
-ghost use Rattle.bits.specs.Field.{twosComplement};
-ghost use Rattle.rounding.specs.Rounding.{roundedOf, isWhole};
-ghost use Rattle.rounding.specs.Widening.{widenedOf};
-ghost use Rattle.ply_vertex.specs.Vertex.{littleEndian, width_of, number_at, size_of, vertexAt, placed};
-ghost use Rattle.ply_vertex.specs.Inner.{nanAt};
+ghost use Rattle.bits.specs.Field.{twos_complement};
+ghost use Rattle.rounding.specs.Rounding.{rounded_of, is_whole};
+ghost use Rattle.rounding.specs.Widening.{widened_of};
+ghost use Rattle.ply_vertex.specs.Vertex.{little_endian, width_of, number_at, size_of, vertex_at, placed};
+ghost use Rattle.ply_vertex.specs.Inner.{nan_at};
 
 use ply_header::{Form, Scalar};
 use rounding::{Number, Vertex};
@@ -26,7 +26,7 @@ fn join(a: u8, b: u8, c: u8, d: u8) -> u32
 // The number of the four bytes from `at` on.
 pub fn word(s: &[u8], at: usize) -> u32
     requires { at + 4 ≤ length s.now }
-    ensures { result ≡ littleEndian s.now at 4 }
+    ensures { result ≡ little_endian s.now at 4 }
 {
     join(s[at], s[at + 1], s[at + 2], s[at + 3])
 }
@@ -34,7 +34,7 @@ pub fn word(s: &[u8], at: usize) -> u32
 // The number of the eight bytes from `at` on.
 fn long_word(s: &[u8], at: usize) -> u64
     requires { at + 8 ≤ length s.now }
-    ensures { result ≡ littleEndian s.now at 8 }
+    ensures { result ≡ little_endian s.now at 8 }
 {
     let low = word(s, at);
     let high = word(s, at + 4);
@@ -43,7 +43,7 @@ fn long_word(s: &[u8], at: usize) -> u64
 
 // The signed number of a bit pattern.
 fn signed(n: u32) -> i32
-    ensures { result ≡ twosComplement 32 n }
+    ensures { result ≡ twos_complement 32 n }
 {
     if n < 0x8000_0000 {
         n as i32
@@ -55,7 +55,7 @@ fn signed(n: u32) -> i32
 // Does a pattern that is not a number stand at `at`? No operation may be done with its float before that is known.
 fn is_nan(t: Scalar, s: &[u8], at: usize) -> bool
     requires { at + width_of t ≤ length s.now }
-    ensures { result ≡ nanAt t s.now at }
+    ensures { result ≡ nan_at t s.now at }
 {
     match t {
         Scalar::Float => 0x7f80_0000 < word(s, at) % 0x8000_0000,
@@ -66,7 +66,7 @@ fn is_nan(t: Scalar, s: &[u8], at: usize) -> bool
 
 // The number of a type that stands at `at`.
 fn number(t: Scalar, s: &[u8], at: usize) -> Number
-    requires { (at + width_of t ≤ length s.now) × (nanAt t s.now at ≡ false) }
+    requires { (at + width_of t ≤ length s.now) × (nan_at t s.now at ≡ false) }
     ensures { result ≡ number_at t s.now at }
 {
     match t {
@@ -79,7 +79,7 @@ fn number(t: Scalar, s: &[u8], at: usize) -> Number
 // Is the number at `at` finite, and in the range once rounded?
 fn is_whole(t: Scalar, s: &[u8], at: usize) -> bool
     requires { at + width_of t ≤ length s.now }
-    ensures { result ≡ isWhole (roundedOf (widenedOf (number_at t s.now at))) }
+    ensures { result ≡ is_whole (rounded_of (widened_of (number_at t s.now at))) }
 {
     if is_nan(t, s, at) {
         return false;
@@ -111,7 +111,7 @@ pub fn size(f: Form) -> usize
 // Is each number of the vertex at `at`? They stand one behind the other.
 pub fn is_placed(s: &[u8], f: Form, at: usize) -> bool
     requires { at + size_of f ≤ length s.now }
-    ensures { result ≡ placed (vertexAt s.now f at) }
+    ensures { result ≡ placed (vertex_at s.now f at) }
 {
     let x = f.x;
     let y = f.y;
@@ -129,8 +129,8 @@ pub fn is_placed(s: &[u8], f: Form, at: usize) -> bool
 
 // The vertex at `at`, where each of its numbers is.
 pub fn vertex(s: &[u8], f: Form, at: usize) -> Vertex
-    requires { (at + size_of f ≤ length s.now) × (placed (vertexAt s.now f at) ≡ true) }
-    ensures { result ≡ vertexAt s.now f at }
+    requires { (at + size_of f ≤ length s.now) × (placed (vertex_at s.now f at) ≡ true) }
+    ensures { result ≡ vertex_at s.now f at }
 {
     let x = f.x;
     let y = f.y;

@@ -12,8 +12,8 @@ use lib.IntN.{ℤ}
 use lib.ListN.{length, get_or, set, take}
 use lib.Seq.{take-suc}
 use Rattle.points.specs.declared.Point.{Point}
-use Rattle.points.specs.Points.{numbersOf}
-use Rattle.points.specs.Inner.{withPoint}
+use Rattle.points.specs.Points.{numbers_of}
+use Rattle.points.specs.Inner.{with_point}
 
 -- Three numbers put behind the first k.
 put-behind : (ns : List ℤ) (k : ℕ) (x y z : ℤ) → suc (suc k) < length ns
@@ -24,18 +24,18 @@ put-behind (a ∷ b ∷ []) zero x y z l = absurd (omega (arith, l))
 put-behind (a ∷ b ∷ c ∷ ns) zero x y z l = refl
 put-behind (a ∷ ns) (suc k) x y z l = ap (λ (t : List ℤ). a ∷ t) (put-behind ns k x y z (le_of_suc-le-suc l))
 
-numbers-snoc : (ps : List Point) (p : Point) → numbersOf (ps ++ (p ∷ [])) ≡ numbersOf ps ++ numbersOf (p ∷ [])
+numbers-snoc : (ps : List Point) (p : Point) → numbers_of (ps ++ (p ∷ [])) ≡ numbers_of ps ++ numbers_of (p ∷ [])
 numbers-snoc [] p = refl
 numbers-snoc (q ∷ ps) p = ap (λ (t : List ℤ). q.x ∷ q.y ∷ q.z ∷ t) (numbers-snoc ps p)
 
 pub one_more : (ps : List Point) (i : ℕ) (d : Point) (ns : List ℤ) → i < length ps → 3 * i + 2 < length ns
-    → take (3 * i) ns ≡ numbersOf (take i ps) → take (3 * suc i) (withPoint ns i (get_or ps i d)) ≡ numbersOf (take (suc i) ps)
+    → take (3 * i) ns ≡ numbers_of (take i ps) → take (3 * suc i) (with_point ns i (get_or ps i d)) ≡ numbers_of (take (suc i) ps)
 one_more ps i d ns l room before =
     (λ t. take (e3 t) (set (set (set ns (3 * i) p.x) (e1 t) p.y) (e2 t) p.z))
     ∙ put-behind ns (3 * i) p.x p.y p.z (omega (arith, room))
-    ∙ ap (λ (t : List ℤ). t ++ numbersOf (p ∷ [])) before
+    ∙ ap (λ (t : List ℤ). t ++ numbers_of (p ∷ [])) before
     ∙ sym (numbers-snoc (take i ps) p)
-    ∙ ap numbersOf (sym (take-suc ps i d l))
+    ∙ ap numbers_of (sym (take-suc ps i d l))
   where
     p : Point
     p = get_or ps i d
@@ -49,7 +49,7 @@ one_more ps i d ns l room before =
     e3 : 3 * suc i ≡ suc (suc (suc (3 * i)))
     e3 = omega arith
 
-pub numbers-length : (ps : List Point) → length (numbersOf ps) ≡ 3 * length ps
+pub numbers-length : (ps : List Point) → length (numbers_of ps) ≡ 3 * length ps
 numbers-length [] = refl
 numbers-length (p ∷ ps) = omega (arith, numbers-length ps)
 

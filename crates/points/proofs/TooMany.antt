@@ -14,32 +14,32 @@ use lib.Seq.{take-length}
 use Rattle.refusal.specs.Limit.{refused}
 use Rattle.refusal.specs.Inner.{asked}
 use Rattle.refusal.proofs.Asking.{and_then, first-append, stopped}
-use Rattle.fill.specs.Fill.{gridOf, fillQuestions}
-use Rattle.demand.specs.Route.{pointCount, countFits, pointQuestions, routeAnswer}
+use Rattle.fill.specs.Fill.{grid_of, fill_questions}
+use Rattle.demand.specs.Route.{point_count, count_fits, point_questions, route_answer}
 use Rattle.points.specs.declared.Point.{Point}
-use Rattle.points.specs.Points.{numbersOf}
+use Rattle.points.specs.Points.{numbers_of}
 use Rattle.points.proofs.Numbers.{numbers-length}
 
 -- Questions 1 to 8 do not look at the points, and question 9 is answered no.
-nine : (s m : List ℕ) (ns : List ℤ) → countFits ns ≡ false
-    → routeAnswer s m ns ≡ and_then (asked (fillQuestions s (length m))) (refused 9 0)
-unfolding routeAnswer
+nine : (s m : List ℕ) (ns : List ℤ) → count_fits ns ≡ false
+    → route_answer s m ns ≡ and_then (asked (fill_questions s (length m))) (refused 9 0)
+unfolding route_answer
 nine s m ns e =
-    first-append _ (fillQuestions s (length m)) (pointQuestions (gridOf s) ns)
-    ∙ ap (and_then (asked (fillQuestions s (length m)))) (stopped _ _ _ e)
+    first-append _ (fill_questions s (length m)) (point_questions (grid_of s) ns)
+    ∙ ap (and_then (asked (fill_questions s (length m)))) (stopped _ _ _ e)
 
-too_many : (ps : List Point) → 64 < length ps → countFits (numbersOf ps) ≡ false
+too_many : (ps : List Point) → 64 < length ps → count_fits (numbers_of ps) ≡ false
 too_many ps l =
-    let many : 64 < pointCount (numbersOf ps) = omega (arith, numbers-length ps) in
-    rw (le-leb 2 (pointCount (numbersOf ps)) (omega (arith, many)), lt-leb (pointCount (numbersOf ps)) 64 many)
+    let many : 64 < point_count (numbers_of ps) = omega (arith, numbers-length ps) in
+    rw (le-leb 2 (point_count (numbers_of ps)) (omega (arith, many)), lt-leb (point_count (numbers_of ps)) 64 many)
 
-pub copied-answer : (s m : List ℕ) (ps : List Point) → routeAnswer s m (numbersOf (take (min (length ps) 65) ps)) ≡ routeAnswer s m (numbersOf ps)
+pub copied-answer : (s m : List ℕ) (ps : List Point) → route_answer s m (numbers_of (take (min (length ps) 65) ps)) ≡ route_answer s m (numbers_of ps)
 copied-answer s m ps = go (dec_lt 64 (length ps))
   where
-    go : Dec (64 < length ps) → routeAnswer s m (numbersOf (take (min (length ps) 65) ps)) ≡ routeAnswer s m (numbersOf ps)
+    go : Dec (64 < length ps) → route_answer s m (numbers_of (take (min (length ps) 65) ps)) ≡ route_answer s m (numbers_of ps)
     go (yes l) =
         let qs = take (min (length ps) 65) ps in
-        nine s m (numbersOf qs) (too_many qs (omega (arith, l, length-take (min (length ps) 65) ps))) ∙ sym (nine s m (numbersOf ps) (too_many ps l))
+        nine s m (numbers_of qs) (too_many qs (omega (arith, l, length-take (min (length ps) 65) ps))) ∙ sym (nine s m (numbers_of ps) (too_many ps l))
     go (no l) =
         let all : min (length ps) 65 ≡ length ps = omega (arith, l) in
-        ap (λ (qs : List Point). routeAnswer s m (numbersOf qs)) (ap (λ (n : ℕ). take n ps) all ∙ take-length ps)
+        ap (λ (qs : List Point). route_answer s m (numbers_of qs)) (ap (λ (n : ℕ). take n ps) all ∙ take-length ps)

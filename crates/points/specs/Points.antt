@@ -3,6 +3,6 @@ use Rattle.std.specs.Prelude.{List, [], ◌∷◌, ℤ}
 use Rattle.points.specs.declared.Point.{Point}
 
 -- The numbers of the points in order: x, y and z of each.
-abbrev pub numbersOf : List Point → List ℤ
-numbersOf [] = []
-numbersOf (p ∷ ps) = p.x ∷ p.y ∷ p.z ∷ numbersOf ps
+abbrev pub numbers_of : List Point → List ℤ
+numbers_of [] = []
+numbers_of (p ∷ ps) = p.x ∷ p.y ∷ p.z ∷ numbers_of ps

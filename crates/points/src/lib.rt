@@ -1,10 +1,10 @@
 // The route test on points that are structs.
 ghost use Rattle.std.specs.Prelude.{◌≡◌, ◌*◌, ◌≤◌, ◌<◌, min, take};
-ghost use Rattle.demand.specs.Route.{routeAnswer};
-ghost use Rattle.route.specs.Said.{saidRoute};
+ghost use Rattle.demand.specs.Route.{route_answer};
+ghost use Rattle.route.specs.Said.{said_route};
 ghost use Rattle.demand.specs.Demand.{DemandOf, FirstOf};
-ghost use Rattle.points.specs.Points.{numbersOf};
-ghost use Rattle.points.specs.Inner.{withPoint};
+ghost use Rattle.points.specs.Points.{numbers_of};
+ghost use Rattle.points.specs.Inner.{with_point};
 
 use route::RouteAnswer;
 
@@ -19,7 +19,7 @@ pub struct Point {
 // Tests a route as `route::test_route` does on the points' numbers in order. Those of 65 points are copied at most: 65
 // meet question 9 as any more would.
 pub fn test_points(file: &[u8], map: &[u8], points: &[Point]) -> RouteAnswer
-    ensures { (saidRoute result ≡ routeAnswer file.now map.now (numbersOf points.now)) × DemandOf file.now map.now (numbersOf points.now) (saidRoute result) × FirstOf file.now map.now (numbersOf points.now) (saidRoute result) }
+    ensures { (said_route result ≡ route_answer file.now map.now (numbers_of points.now)) × DemandOf file.now map.now (numbers_of points.now) (said_route result) × FirstOf file.now map.now (numbers_of points.now) (said_route result) }
 {
     let count = copied_count(points.len());
     let mut numbers = [0i16; 195];
@@ -33,7 +33,7 @@ pub fn test_points(file: &[u8], map: &[u8], points: &[Point]) -> RouteAnswer
 
 // The same of the first `count` points of an array, or of all 128: for callers that hold their points by value.
 pub fn test_first_points(file: &[u8], map: &[u8], points: [Point; 128], count: usize) -> RouteAnswer
-    ensures { (saidRoute result ≡ routeAnswer file.now map.now (numbersOf (take count points))) × DemandOf file.now map.now (numbersOf (take count points)) (saidRoute result) × FirstOf file.now map.now (numbersOf (take count points)) (saidRoute result) }
+    ensures { (said_route result ≡ route_answer file.now map.now (numbers_of (take count points))) × DemandOf file.now map.now (numbers_of (take count points)) (said_route result) × FirstOf file.now map.now (numbers_of (take count points)) (said_route result) }
 {
     let end = lent_count(count);
     test_points(file, map, &points[..end])
@@ -56,7 +56,7 @@ fn lent_count(count: usize) -> usize
 // The numbers with those of point i in their places.
 fn with_point(numbers: [i16; 195], i: usize, p: Point) -> [i16; 195]
     requires { i < 65 }
-    ensures { result ≡ withPoint numbers i p }
+    ensures { result ≡ with_point numbers i p }
 {
     let mut to = numbers;
     let at = 3 * i;
@@ -72,7 +72,7 @@ fn with_point(numbers: [i16; 195], i: usize, p: Point) -> [i16; 195]
 // Tests a route of the first `count` points whose numbers were copied.
 fn test_copied(file: &[u8], map: &[u8], numbers: [i16; 195], count: usize) -> RouteAnswer
     requires { count ≤ 65 }
-    ensures { saidRoute result ≡ routeAnswer file.now map.now (take (3 * count) numbers) }
+    ensures { said_route result ≡ route_answer file.now map.now (take (3 * count) numbers) }
 {
     let end = 3 * count;
     route::test_route(file, map, &numbers[..end])

@@ -2,11 +2,11 @@
 use Rattle.std.specs.Prelude.{List, [], ◌∷◌, ◌≡◌, Bool, ◌&&◌, ℕ, ◌^◌, ◌≤◌, ◌<◌, ltb, ℤ, pos, ◌+ℤ◌, ◌*ℤ◌}
 use Rattle.std.specs.Int.Signed.{le_z}
 use Rattle.geometry.specs.declared.Triangle.{Triangle}
-use Rattle.geometry.specs.Geometry.{Axis, xOf, yOf, z_of, cube}
-use Rattle.overlap.specs.Rule.{leastHolds, greatestHolds}
+use Rattle.geometry.specs.Geometry.{Axis, x_of, y_of, z_of, cube}
+use Rattle.overlap.specs.Rule.{least_holds, greatest_holds}
 use Rattle.grid.specs.declared.Lattice.{Lattice}
-use Rattle.grid.specs.Grid.{boxCorner}
-use Rattle.geometry.specs.Bounds.{coordinateMax, stepMax, extentMax}
+use Rattle.grid.specs.Grid.{box_corner}
+use Rattle.geometry.specs.Bounds.{coordinate_max, step_max, extent_max}
 use Rattle.grid.specs.declared.CellRange.{CellRange}
 use Rattle.grid.specs.declared.BoxRange.{BoxRange}
 use Rattle.grid.specs.Range.{in_range}
@@ -20,25 +20,25 @@ pub record Picks (n : ℕ) (P Q : ℕ → Bool) (r : CellRange) : Type 0 where
   pub exact : (i : ℕ) → i < n → in_range r i ≡ (P i && Q i)
 
 -- On an axis, the closed range from `least` to `greatest` touches the box of cell i: the box ends at or behind `least`, and begins at or before `greatest`.
-abbrev pub endsFrom : (least origin step extent : ℤ) → ℕ → Bool
-endsFrom least origin step extent i = le_z least (origin +ℤ pos i *ℤ step +ℤ extent)
+abbrev pub ends_from : (least origin step extent : ℤ) → ℕ → Bool
+ends_from least origin step extent i = le_z least (origin +ℤ pos i *ℤ step +ℤ extent)
 
-abbrev pub beginsBy : (greatest origin step : ℤ) → ℕ → Bool
-beginsBy greatest origin step i = le_z (origin +ℤ pos i *ℤ step) greatest
+abbrev pub begins_by : (greatest origin step : ℤ) → ℕ → Bool
+begins_by greatest origin step i = le_z (origin +ℤ pos i *ℤ step) greatest
 
 -- On each axis, the cells whose box test holds, by the test's two halves. Where it holds for none, the range is empty: it begins where it ends, behind the
 -- cells that begin at or before the triangle's greatest value there. The test on an axis looks at the cell's number on that axis alone, so cell (i, i, i)
 -- stands for every cell with the number i.
-abbrev pub leastOn : Triangle → Lattice → Axis → ℕ → Bool
-leastOn t l a i = leastHolds t (boxCorner l i i i) (cube l.extent) a
+abbrev pub least_on : Triangle → Lattice → Axis → ℕ → Bool
+least_on t l a i = least_holds t (box_corner l i i i) (cube l.extent) a
 
-abbrev pub greatestOn : Triangle → Lattice → Axis → ℕ → Bool
-greatestOn t l a i = greatestHolds t (boxCorner l i i i) a
+abbrev pub greatest_on : Triangle → Lattice → Axis → ℕ → Bool
+greatest_on t l a i = greatest_holds t (box_corner l i i i) a
 
 pub record PicksBox (t : Triangle) (l : Lattice) (nx ny nz : ℕ) (r : BoxRange) : Type 0 where
-  pub x : Picks nx (leastOn t l xOf) (greatestOn t l xOf) r.x
-  pub y : Picks ny (leastOn t l yOf) (greatestOn t l yOf) r.y
-  pub z : Picks nz (leastOn t l z_of) (greatestOn t l z_of) r.z
+  pub x : Picks nx (least_on t l x_of) (greatest_on t l x_of) r.x
+  pub y : Picks ny (least_on t l y_of) (greatest_on t l y_of) r.y
+  pub z : Picks nz (least_on t l z_of) (greatest_on t l z_of) r.z
 
 -- ---- what the functions ask: their numbers' bounds, in their parameters' order
 pub record Few (nx ny nz : ℕ) : Type 0 where
@@ -47,8 +47,8 @@ pub record Few (nx ny nz : ℕ) : Type 0 where
   pub z : nz < 2 ^ 63
 
 -- On an axis: the least and the greatest coordinate, the lattice's origin, step and extent; three corners, the same.
-abbrev pub rangeBounds : List ℕ
-rangeBounds = coordinateMax ∷ coordinateMax ∷ coordinateMax ∷ stepMax ∷ extentMax ∷ []
+abbrev pub range_bounds : List ℕ
+range_bounds = coordinate_max ∷ coordinate_max ∷ coordinate_max ∷ step_max ∷ extent_max ∷ []
 
-abbrev pub axisBounds : List ℕ
-axisBounds = coordinateMax ∷ coordinateMax ∷ coordinateMax ∷ coordinateMax ∷ stepMax ∷ extentMax ∷ []
+abbrev pub axis_bounds : List ℕ
+axis_bounds = coordinate_max ∷ coordinate_max ∷ coordinate_max ∷ coordinate_max ∷ step_max ∷ extent_max ∷ []

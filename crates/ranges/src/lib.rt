@@ -1,11 +1,11 @@
 // Ranges of cells: on each axis, the cells whose boxes a triangle's box touches.
 ghost use Rattle.std.specs.Prelude.{[], ◌∷◌, ◌^◌, ◌<◌, pos, ◌<ℤ◌};
 ghost use Rattle.integers.specs.Within.{Withins};
-ghost use Rattle.integers.specs.Order.{minℤ, maxℤ};
+ghost use Rattle.integers.specs.Order.{min_ℤ, max_ℤ};
 ghost use Rattle.geometry.specs.Bounds.{BoundedTriangle};
 ghost use Rattle.geometry.specs.Geometry.{triangle};
 ghost use Rattle.grid.specs.Usable.{UsableLattice};
-ghost use Rattle.ranges.specs.Range.{rangeBounds, axisBounds, Picks, endsFrom, beginsBy, Few, PicksBox};
+ghost use Rattle.ranges.specs.Range.{range_bounds, axis_bounds, Picks, ends_from, begins_by, Few, PicksBox};
 
 use geometry::Point;
 use grid::{BoxRange, CellRange, Lattice};
@@ -20,8 +20,8 @@ fn cell_range(
     extent: i64,
     cells: usize,
 ) -> CellRange
-    requires { Withins rangeBounds (least ∷ greatest ∷ origin ∷ step ∷ extent ∷ []) × (pos 0 <ℤ step) × (cells < 2 ^ 63) }
-    ensures { Picks cells (endsFrom least origin step extent) (beginsBy greatest origin step) result }
+    requires { Withins range_bounds (least ∷ greatest ∷ origin ∷ step ∷ extent ∷ []) × (pos 0 <ℤ step) × (cells < 2 ^ 63) }
+    ensures { Picks cells (ends_from least origin step extent) (begins_by greatest origin step) result }
 {
     let n = integers::from_index(cells);
     let before = integers::floor_div(origin + extent - least, step);
@@ -44,8 +44,8 @@ fn axis_range(
     extent: i64,
     cells: usize,
 ) -> CellRange
-    requires { Withins axisBounds (a0 ∷ a1 ∷ a2 ∷ origin ∷ step ∷ extent ∷ []) × (pos 0 <ℤ step) × (cells < 2 ^ 63) }
-    ensures { Picks cells (endsFrom (minℤ (minℤ a0 a1) a2) origin step extent) (beginsBy (maxℤ (maxℤ a0 a1) a2) origin step) result }
+    requires { Withins axis_bounds (a0 ∷ a1 ∷ a2 ∷ origin ∷ step ∷ extent ∷ []) × (pos 0 <ℤ step) × (cells < 2 ^ 63) }
+    ensures { Picks cells (ends_from (min_ℤ (min_ℤ a0 a1) a2) origin step extent) (begins_by (max_ℤ (max_ℤ a0 a1) a2) origin step) result }
 {
     let least = integers::min(integers::min(a0, a1), a2);
     let greatest = integers::max(integers::max(a0, a1), a2);

@@ -13,22 +13,22 @@ use Rattle.integers.proofs.Expr.{var, num, ◌⊕◌, ◌⊗◌}
 use Rattle.integers.proofs.Ring.{ring}
 use Rattle.geometry.specs.declared.Point.{Point}
 use Rattle.geometry.specs.declared.Triangle.{Triangle}
-use Rattle.geometry.specs.Geometry.{Axis, xOf, yOf, z_of}
-use Rattle.reach.specs.Reaches.{weightedSum, weightedSumLeg, CommonOn, CommonPoint}
+use Rattle.geometry.specs.Geometry.{Axis, x_of, y_of, z_of}
+use Rattle.reach.specs.Reaches.{weighted_sum, weighted_sum_leg, CommonOn, CommonPoint}
 
 -- Weights of a leg, or of a triangle, that give the point p.
 pub record LegAt (a b p : Point) : Type 0 where
   pub l0 : ℕ
   pub l1 : ℕ
   pub some : 0 < l0 + l1
-  pub sum : (c : Axis) → weightedSumLeg a b l0 l1 c ≡ c p *ℤ pos (l0 + l1)
+  pub sum : (c : Axis) → weighted_sum_leg a b l0 l1 c ≡ c p *ℤ pos (l0 + l1)
 
 pub record TriangleAt (t : Triangle) (p : Point) : Type 0 where
   pub w0 : ℕ
   pub w1 : ℕ
   pub w2 : ℕ
   pub some : 0 < w0 + w1 + w2
-  pub sum : (c : Axis) → weightedSum t w0 w1 w2 c ≡ c p *ℤ pos (w0 + w1 + w2)
+  pub sum : (c : Axis) → weighted_sum t w0 w1 w2 c ≡ c p *ℤ pos (w0 + w1 + w2)
 
 exchange : (v q l : ℤ) → v *ℤ (q *ℤ l) ≡ l *ℤ (q *ℤ v)
 exchange v q l =
@@ -44,8 +44,8 @@ common-at {a} {b} {p} {t} u w = record {
   w2 = w.w2;
   some-leg = omega (arith, u.some);
   some-triangle = omega (arith, w.some);
-  x = on xOf;
-  y = on yOf;
+  x = on x_of;
+  y = on y_of;
   z = on z_of;
 }
   where
@@ -56,7 +56,7 @@ common-at {a} {b} {p} {t} u w = record {
         record { same = ap (◌*ℤ◌ V₀) (u.sum c) ∙ exchange V₀ (c p) L ∙ ap (◌*ℤ◌ L) (sym (w.sum c)) }
 
 pub common-by : (a b : Point) (t : Triangle) (l0 l1 w0 w1 w2 : ℕ) → 0 < l0 + l1 → 0 < w0 + w1 + w2
-    → ((c : Axis) → pos (w0 + w1 + w2) *ℤ weightedSumLeg a b l0 l1 c ≡ pos (l0 + l1) *ℤ weightedSum t w0 w1 w2 c) → CommonPoint a b t
+    → ((c : Axis) → pos (w0 + w1 + w2) *ℤ weighted_sum_leg a b l0 l1 c ≡ pos (l0 + l1) *ℤ weighted_sum t w0 w1 w2 c) → CommonPoint a b t
 common-by a b t l0 l1 w0 w1 w2 u v same = record {
   l0 = l0;
   l1 = l1;
@@ -65,8 +65,8 @@ common-by a b t l0 l1 w0 w1 w2 u v same = record {
   w2 = w2;
   some-leg = u;
   some-triangle = v;
-  x = record { same = same xOf };
-  y = record { same = same yOf };
+  x = record { same = same x_of };
+  y = record { same = same y_of };
   z = record { same = same z_of };
 }
 
@@ -77,7 +77,7 @@ one {x} {y} h e = rw h (e ∙ ring (y ∷ []) (var 0) (var 0 ⊗ num 1) tt)
 leg-end : (a b p : Point) → (p ≡ a) ⊎ (p ≡ b) → LegAt a b p
 leg-end a b p = go
   where
-    on : (u v : ℕ) → u + v ≡ 1 → ((c : Axis) → weightedSumLeg a b u v c ≡ c p) → LegAt a b p
+    on : (u v : ℕ) → u + v ≡ 1 → ((c : Axis) → weighted_sum_leg a b u v c ≡ c p) → LegAt a b p
     on u v h sum = record { l0 = u; l1 = v; some = omega arith; sum = λ c. one h (sum c) }
 
     go : (p ≡ a) ⊎ (p ≡ b) → LegAt a b p
@@ -87,7 +87,7 @@ leg-end a b p = go
 triangle-corner : (t : Triangle) (p : Point) → (p ≡ t.v0) ⊎ ((p ≡ t.v1) ⊎ (p ≡ t.v2)) → TriangleAt t p
 triangle-corner t p = go
   where
-    on : (u v w : ℕ) → u + v + w ≡ 1 → ((c : Axis) → weightedSum t u v w c ≡ c p) → TriangleAt t p
+    on : (u v w : ℕ) → u + v + w ≡ 1 → ((c : Axis) → weighted_sum t u v w c ≡ c p) → TriangleAt t p
     on u v w h sum = record { w0 = u; w1 = v; w2 = w; some = omega arith; sum = λ c. one h (sum c) }
 
     corners : Axis → List ℤ

@@ -13,10 +13,10 @@ use Rattle.integers.proofs.Expr.{var, num, ◌⊕◌, ◌⊗◌}
 use Rattle.integers.proofs.Certificates.{nn, le, eq, ◌⊞◌, ◌⊠◌, by_le, by-le/}
 use Rattle.geometry.specs.declared.Point.{Point}
 use Rattle.geometry.specs.declared.Triangle.{Triangle}
-use Rattle.geometry.specs.Geometry.{Axis, xOf, yOf, z_of, cube}
+use Rattle.geometry.specs.Geometry.{Axis, x_of, y_of, z_of, cube}
 use Rattle.grid.specs.declared.Grid.{Grid}
-use Rattle.grid.specs.Grid.{cellCorner, gridExtent}
-use Rattle.reach.specs.Reaches.{Between, weightedSumLeg, Reaches, LegReaches, CommonPoint}
+use Rattle.grid.specs.Grid.{cell_corner, grid_extent}
+use Rattle.reach.specs.Reaches.{Between, weighted_sum_leg, Reaches, LegReaches, CommonPoint}
 use Rattle.reach.specs.Inner.{InsideOn, InsideGrid}
 
 -- there are cells, and their edge is not negative
@@ -34,7 +34,7 @@ pub record SomeCell (g : Grid) (P : Point → Type 0) : Type 0 where
   pub i-in : i < g.nx
   pub j-in : j < g.ny
   pub k-in : k < g.nz
-  pub holds : P (cellCorner g i j k)
+  pub holds : P (cell_corner g i j k)
 
 weaken : {g : Grid} {P Q : Point → Type 0} → SomeCell g P → ((p : Point) → P p → Q p) → SomeCell g Q
 weaken {g} c f = record {
@@ -44,7 +44,7 @@ weaken {g} c f = record {
   i-in = c.i-in;
   j-in = c.j-in;
   k-in = c.k-in;
-  holds = f (cellCorner g c.i c.j c.k) c.holds;
+  holds = f (cell_corner g c.i c.j c.k) c.holds;
 }
 
 -- ---- on one axis: a mean s ÷ u that is between the ends of n cells of the size e, from o on, is between the ends of one of them
@@ -79,10 +79,10 @@ slot (suc (suc n)) o e s u h f t = elim (≤-or-> s ((o +ℤ pos (suc n) *ℤ e)
 -- ---- on three
 -- a mean with the weighted sums x, y, z and the total w is in the box
 abbrev MeanIn : (w : ℕ) (x y z : ℤ) → (p d : Point) → Type 0
-MeanIn w x y z p d = Between p d w xOf x × (Between p d w yOf y × Between p d w z_of z)
+MeanIn w x y z p d = Between p d w x_of x × (Between p d w y_of y × Between p d w z_of z)
 
-mean-cell : {g : Grid} {w : ℕ} {x y z : ℤ} → Proper g → Between g.origin (gridExtent g) w xOf x → Between g.origin (gridExtent g) w yOf y
-    → Between g.origin (gridExtent g) w z_of z → SomeCell g (λ p. MeanIn w x y z p (cube g.edge))
+mean-cell : {g : Grid} {w : ℕ} {x y z : ℤ} → Proper g → Between g.origin (grid_extent g) w x_of x → Between g.origin (grid_extent g) w y_of y
+    → Between g.origin (grid_extent g) w z_of z → SomeCell g (λ p. MeanIn w x y z p (cube g.edge))
 mean-cell {g} {w} {x} {y} {z} proper bx by bz =
     let sx = slot g.nx g.origin.x g.edge x (pos w) proper.x bx.from bx.to in
     let sy = slot g.ny g.origin.y g.edge y (pos w) proper.y by.from by.to in
@@ -100,9 +100,9 @@ mean-cell {g} {w} {x} {y} {z} proper bx by bz =
 -- ---- a point in common
 -- a leg with its ends in the grid has its means there
 leg-inside : {g : Grid} {a b : Point} {c : Axis} (l0 l1 : ℕ) → InsideOn g a c → InsideOn g b c
-    → Between g.origin (gridExtent g) (l0 + l1) c (weightedSumLeg a b l0 l1 c)
+    → Between g.origin (grid_extent g) (l0 + l1) c (weighted_sum_leg a b l0 l1 c)
 leg-inside {g} {a} {b} {c} l0 l1 ia ib =
-    let ρ = c a ∷ c b ∷ pos l0 ∷ pos l1 ∷ c g.origin ∷ (c g.origin +ℤ c (gridExtent g)) ∷ [] in
+    let ρ = c a ∷ c b ∷ pos l0 ∷ pos l1 ∷ c g.origin ∷ (c g.origin +ℤ c (grid_extent g)) ∷ [] in
     let A = var 0 in let B = var 1 in let L = var 2 in let M = var 3 in let O = var 4 in let Q = var 5 in
     record {
       from = by_le ρ (O ⊗ (L ⊕ M)) (L ⊗ A ⊕ M ⊗ B) (nn L (nn-pos l0) ⊠ le O A ia.from ⊞ nn M (nn-pos l1) ⊠ le O B ib.from) tt;

@@ -14,13 +14,13 @@ use Rattle.integers.proofs.Certificates.{nn, le, lt, eq, ◌⊞◌, ◌⊠◌, b
 use Rattle.integers.proofs.Orientation.{orientation, orientation-nn}
 use Rattle.geometry.specs.declared.Point.{Point}
 use Rattle.geometry.specs.declared.Triangle.{Triangle}
-use Rattle.geometry.specs.Geometry.{point, dot, xOf, yOf, z_of}
+use Rattle.geometry.specs.Geometry.{point, dot, x_of, y_of, z_of}
 use Rattle.overlap.specs.Rule.{Side, step, corner, normal}
 use Rattle.reach.specs.Reaches.{ReachesBox}
 use Rattle.reach.proofs.Vectors.{vector, total, det, ones, turn, minusᴱ, dotᴱ, crossᴱ, totalᴱ, detᴱ, onesᴱ, turnᴱ, vec, ◌at◌}
 use Rattle.reach.proofs.Weights.{Weights, turn-dot, turn-weights}
 use Rattle.reach.proofs.Quadrant.{Some}
-use Rattle.reach.proofs.Sides.{on, sign, sign-square, against, onSideᴱ, side, Spans, between, normal-det}
+use Rattle.reach.proofs.Sides.{on, sign, sign-square, against, on_sideᴱ, side, Spans, between, normal-det}
 use Rattle.reach.proofs.Tests.{Cut, besideᴱ, EdgeTest, EdgeTests, Passes}
 
 -- ---- boxes: if no corner satisfied a side, no weights would
@@ -46,16 +46,16 @@ farthest-side m p d x w s =
     let X = vec 0 in let W = vec 1 in let M = var 6 in let C = var 7 in let R = var 8 in (
       α,
       by_le (x at w at m ∷ (p +ℤ step α d) ∷ sign α ∷ []) (M ⊗ dotᴱ W X) (totalᴱ W ⊗ (M ⊗ C))
-          (le (R ⊗ M) (num 0) h ⊠ nn (dotᴱ (onSideᴱ R C X) W) (s α) ⊞ eq (M ⊗ (totalᴱ W ⊗ C ⊖ dotᴱ W X)) (R ⊗ R) (num 1) (sign-square α)) tt,
+          (le (R ⊗ M) (num 0) h ⊠ nn (dotᴱ (on_sideᴱ R C X) W) (s α) ⊞ eq (M ⊗ (totalᴱ W ⊗ C ⊖ dotᴱ W X)) (R ⊗ R) (num 1) (sign-square α)) tt,
     )
 
 -- ---- plane: the mean has the offset 0
-module _ (t : Triangle) (p d w : Point) (ok : Weights w) (x : Spans p.x d.x (on t xOf) w) (y : Spans p.y d.y (on t yOf) w)
+module _ (t : Triangle) (p d w : Point) (ok : Weights w) (x : Spans p.x d.x (on t x_of) w) (y : Spans p.y d.y (on t y_of) w)
     (z : Spans p.z d.z (on t z_of) w) where
   in-plane : (ε : Side) → Cut t p d ε
   in-plane ε =
-      let (α, hx) = farthest-side (sign ε *ℤ (normal t).x) p.x d.x (on t xOf) w x in
-      let (β, hy) = farthest-side (sign ε *ℤ (normal t).y) p.y d.y (on t yOf) w y in
+      let (α, hx) = farthest-side (sign ε *ℤ (normal t).x) p.x d.x (on t x_of) w x in
+      let (β, hy) = farthest-side (sign ε *ℤ (normal t).y) p.y d.y (on t y_of) w y in
       let (γ, hz) = farthest-side (sign ε *ℤ (normal t).z) p.z d.z (on t z_of) w z in
       let V0 = vec 0 in let V1 = vec 1 in let V2 = vec 2 in let C = vec 3 in let W = vec 4 in let S = var 15 in
       let N = crossᴱ (minusᴱ V1 V0) (minusᴱ V2 V0) in (
@@ -109,15 +109,15 @@ module _ {t : Triangle} {p d : Point} (r : ReachesBox t p d) where
   reach-to-rule =
       let w = point (pos r.w0) (pos r.w1) (pos r.w2) in
       let ok : Weights w = record { x = nn-pos r.w0; y = nn-pos r.w1; z = nn-pos r.w2; some = pos-lt (omega (arith, r.some)) } in
-      let x = (between t r.w0 r.w1 r.w2 xOf).0 r.x in
-      let y = (between t r.w0 r.w1 r.w2 yOf).0 r.y in
+      let x = (between t r.w0 r.w1 r.w2 x_of).0 r.x in
+      let y = (between t r.w0 r.w1 r.w2 y_of).0 r.y in
       let z = (between t r.w0 r.w1 r.w2 z_of).0 r.z in
       record {
-        x = λ α. some-corner (side p.x d.x (on t xOf) α) w ok (x α);
-        y = λ α. some-corner (side p.y d.y (on t yOf) α) w ok (y α);
+        x = λ α. some-corner (side p.x d.x (on t x_of) α) w ok (x α);
+        y = λ α. some-corner (side p.y d.y (on t y_of) α) w ok (y α);
         z = λ α. some-corner (side p.z d.z (on t z_of) α) w ok (z α);
         plane = in-plane t p d w ok x y z;
-        xy = in-edges (normal t).z p.x d.x p.y d.y (on t xOf) (on t yOf) w (normal-det (on t xOf) (on t yOf)) ok x y;
-        yz = in-edges (normal t).x p.y d.y p.z d.z (on t yOf) (on t z_of) w (normal-det (on t yOf) (on t z_of)) ok y z;
-        zx = in-edges (normal t).y p.z d.z p.x d.x (on t z_of) (on t xOf) w (normal-det (on t z_of) (on t xOf)) ok z x;
+        xy = in-edges (normal t).z p.x d.x p.y d.y (on t x_of) (on t y_of) w (normal-det (on t x_of) (on t y_of)) ok x y;
+        yz = in-edges (normal t).x p.y d.y p.z d.z (on t y_of) (on t z_of) w (normal-det (on t y_of) (on t z_of)) ok y z;
+        zx = in-edges (normal t).y p.z d.z p.x d.x (on t z_of) (on t x_of) w (normal-det (on t z_of) (on t x_of)) ok z x;
       }

@@ -8,7 +8,7 @@ use mathlib.Core.Path.{◌≡◌, subst}
 use lib.Dec.{T}
 use lib.IntN.{ℤ, pos, negsuc, ◌+ℤ◌, ◌-ℤ◌, ◌*ℤ◌}
 use lib.Signed.{◌≤ℤ◌}
-use Rattle.integers.specs.Order.{minℤ, maxℤ}
+use Rattle.integers.specs.Order.{min_ℤ, max_ℤ}
 use Rattle.integers.proofs.Omega.{zarith}
 use Rattle.integers.proofs.Laws.{NN, nn-add, nn-mul, nn-pos}
 use Rattle.integers.proofs.Expr.{lit, var, num, ◌⊕◌, ◌⊖◌, ◌⊗◌}
@@ -16,8 +16,8 @@ use Rattle.integers.proofs.Certificates.{le, by-nn}
 use Rattle.integers.proofs.MinMax.{min!, max!, min-either, max-either}
 use Rattle.geometry.specs.declared.Point.{Point}
 use Rattle.geometry.specs.declared.Triangle.{Triangle}
-use Rattle.geometry.specs.Geometry.{point, dot, Axis, xOf, yOf, z_of}
-use Rattle.overlap.specs.Rule.{Side, low, high, least3, greatest3, overlapsBox}
+use Rattle.geometry.specs.Geometry.{point, dot, Axis, x_of, y_of, z_of}
+use Rattle.overlap.specs.Rule.{Side, low, high, least3, greatest3, overlaps_box}
 use Rattle.reach.specs.Reaches.{ReachesBox}
 use Rattle.reach.proofs.Weights.{Weights, Satisfies, Feasible}
 use Rattle.reach.proofs.Slab.{slab}
@@ -57,15 +57,15 @@ module _ {t : Triangle} {p d : Point} {a : Axis} (h : Stays t p d a) where
   stays : (α : Side) → Inner (side (a p) (a d) (on t a) α)
   stays low =
       let f = h.from in
-      let k0 : a p ≤ℤ x0 = omega (zarith, min! x0 x1, min! (minℤ x0 x1) x2) in
-      let k1 : a p ≤ℤ x1 = omega (zarith, min! x0 x1, min! (minℤ x0 x1) x2) in
-      let k2 : a p ≤ℤ x2 = omega (zarith, min! x0 x1, min! (minℤ x0 x1) x2) in
+      let k0 : a p ≤ℤ x0 = omega (zarith, min! x0 x1, min! (min_ℤ x0 x1) x2) in
+      let k1 : a p ≤ℤ x1 = omega (zarith, min! x0 x1, min! (min_ℤ x0 x1) x2) in
+      let k2 : a p ≤ℤ x2 = omega (zarith, min! x0 x1, min! (min_ℤ x0 x1) x2) in
       (low-nn (a p) x0 k0, low-nn (a p) x1 k1, low-nn (a p) x2 k2)
   stays high =
       let f = h.to in
-      let k0 : x0 ≤ℤ (a p +ℤ a d) = omega (zarith, max! x0 x1, max! (maxℤ x0 x1) x2) in
-      let k1 : x1 ≤ℤ (a p +ℤ a d) = omega (zarith, max! x0 x1, max! (maxℤ x0 x1) x2) in
-      let k2 : x2 ≤ℤ (a p +ℤ a d) = omega (zarith, max! x0 x1, max! (maxℤ x0 x1) x2) in
+      let k0 : x0 ≤ℤ (a p +ℤ a d) = omega (zarith, max! x0 x1, max! (max_ℤ x0 x1) x2) in
+      let k1 : x1 ≤ℤ (a p +ℤ a d) = omega (zarith, max! x0 x1, max! (max_ℤ x0 x1) x2) in
+      let k2 : x2 ≤ℤ (a p +ℤ a d) = omega (zarith, max! x0 x1, max! (max_ℤ x0 x1) x2) in
       (high-nn (a p) (a d) x0 k0, high-nn (a p) (a d) x1 k1, high-nn (a p) (a d) x2 k2)
 
 -- ---- all weight on one corner
@@ -99,12 +99,12 @@ one_of P op either x y z h = elim (either (op x y) z) [
 ]
 
 -- ---- the triangle stays within the box on x and y, and its box touches it on z
-module _ (t : Triangle) (p d : Point) (size : Size d) (hx : Stays t p d xOf) (hy : Stays t p d yOf) (low-z : least3 z_of t ≤ℤ (p.z +ℤ d.z)) (high-z : p.z ≤ℤ greatest3 z_of t) where
+module _ (t : Triangle) (p d : Point) (size : Size d) (hx : Stays t p d x_of) (hy : Stays t p d y_of) (low-z : least3 z_of t ≤ℤ (p.z +ℤ d.z)) (high-z : p.z ≤ℤ greatest3 z_of t) where
   abbrev f : Side → Point
-  f = side p.x d.x (on t xOf)
+  f = side p.x d.x (on t x_of)
 
   abbrev g : Side → Point
-  g = side p.y d.y (on t yOf)
+  g = side p.y d.y (on t y_of)
 
   abbrev h : Side → Point
   h = side p.z d.z (on t z_of)
@@ -121,8 +121,8 @@ module _ (t : Triangle) (p d : Point) (size : Size d) (hx : Stays t p d xOf) (hy
       let b = z_of t.v1 in
       let c = z_of t.v2 in
       slab (facing p.z d.z (on t z_of) size.z)
-      (on-corner (h low) all (one_of (λ q. NN (pos 1 *ℤ (q -ℤ (p.z +ℤ pos 0)))) maxℤ max-either a b c (low-nn p.z (greatest3 z_of t) high-z)))
-      (on-corner (h high) all (one_of (λ q. NN (negsuc 0 *ℤ (q -ℤ (p.z +ℤ d.z)))) minℤ min-either a b c (high-nn p.z d.z (least3 z_of t) low-z)))
+      (on-corner (h low) all (one_of (λ q. NN (pos 1 *ℤ (q -ℤ (p.z +ℤ pos 0)))) max_ℤ max-either a b c (low-nn p.z (greatest3 z_of t) high-z)))
+      (on-corner (h high) all (one_of (λ q. NN (negsuc 0 *ℤ (q -ℤ (p.z +ℤ d.z)))) min_ℤ min-either a b c (high-nn p.z d.z (least3 z_of t) low-z)))
 
   pub row-reaches : ReachesBox t p d
   row-reaches =
@@ -131,5 +131,5 @@ module _ (t : Triangle) (p d : Point) (size : Size d) (hx : Stays t p d xOf) (hy
       to-reach m.w.x m.w.y m.w.z m.ok (each-side (λ α. NN (dot (f α) m.w)) fl fh)
       (each-side (λ α. NN (dot (g α) m.w)) gl gh) (each-side (λ α. NN (dot (h α) m.w)) hl hh)
 
-  pub row-holds : T (overlapsBox t p d)
+  pub row-holds : T (overlaps_box t p d)
   row-holds = (box-rule t p d size).1 row-reaches

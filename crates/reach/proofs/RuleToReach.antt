@@ -11,7 +11,7 @@ use Rattle.integers.proofs.Certificates.{nn, le, eq, ps, weak, sq, ◌⊞◌, �
 use Rattle.integers.proofs.Orientation.{orientation, orientation-nn}
 use Rattle.geometry.specs.declared.Point.{Point}
 use Rattle.geometry.specs.declared.Triangle.{Triangle}
-use Rattle.geometry.specs.Geometry.{point, dot, xOf, yOf, z_of}
+use Rattle.geometry.specs.Geometry.{point, dot, x_of, y_of, z_of}
 use Rattle.overlap.specs.Rule.{Side, low, high, step, corner, offset}
 use Rattle.reach.specs.Reaches.{ReachesBox}
 use Rattle.reach.proofs.Vectors.{vector, det, ones, minusᴱ, dotᴱ, crossᴱ, detᴱ, onesᴱ, vec, ◌at◌}
@@ -19,7 +19,7 @@ use Rattle.reach.proofs.Weights.{Weights, Feasible}
 use Rattle.reach.proofs.Slab.{six-sides}
 use Rattle.reach.proofs.Quadrant.{Some, IsSign, plus, minus, Crosses, quadrant}
 use Rattle.reach.proofs.Octant.{octant}
-use Rattle.reach.proofs.Sides.{on, sign, sign-square, against, onSide, onSideᴱ, side, each-side, Size, facing, inside, between, Spans, normal-det}
+use Rattle.reach.proofs.Sides.{on, sign, sign-square, against, on_side, on_sideᴱ, side, each-side, Size, facing, inside, between, Spans, normal-det}
 use Rattle.reach.proofs.Tests.{orientation-sign, besideᴱ, EdgeTest, EdgeTests, Passes}
 
 -- ---- two sides: the edges of the triangle, seen from the sides α and β
@@ -58,7 +58,7 @@ two-sides α β {n} {p} {d} {q} {e} {x} {y} hd he hn t sx sy =
       turns =
           let X = vec 0 in let Y = vec 1 in let A = var 6 in let B = var 7 in let S = var 8 in let C = var 9 in let K = var 10 in let N = var 11 in
           by-nn (x at y at sign α ∷ sign β ∷ orientation n ∷ (p +ℤ step α d) ∷ (q +ℤ step β e) ∷ n ∷ [])
-          (S ⊗ (A ⊗ B) ⊗ detᴱ (onSideᴱ A C X) (onSideᴱ B K Y) onesᴱ)
+          (S ⊗ (A ⊗ B) ⊗ detᴱ (on_sideᴱ A C X) (on_sideᴱ B K Y) onesᴱ)
           (sq (A ⊗ B) ⊠ (nn (S ⊗ N) (orientation-nn n) ⊞ eq S N (detᴱ X Y onesᴱ) hn)) tt;
       e0 = crosses α β hd he t.e0;
       e1 = crosses α β hd he t.e1;
@@ -83,16 +83,16 @@ cut {t} {p} {d} o s =
 -- Of the numbers on the three sides, the determinants are, up to signs, the components of the normal and the offset of c.
 corner-inside : (t : Triangle) (c q : Point) (a b e ε : ℤ)
     → NN (a *ℤ (q.x -ℤ c.x)) → NN (b *ℤ (q.y -ℤ c.y)) → NN (e *ℤ (q.z -ℤ c.z)) → (a *ℤ b *ℤ e *ℤ ε *ℤ offset t q) ≤ℤ pos 0
-    → pos 0 <ℤ (det (onSide b c.y (on t yOf)) (onSide e c.z (on t z_of)) ones *ℤ ε)
-    → pos 0 <ℤ (det (onSide e c.z (on t z_of)) (onSide a c.x (on t xOf)) ones *ℤ ε)
-    → pos 0 <ℤ (det (onSide a c.x (on t xOf)) (onSide b c.y (on t yOf)) ones *ℤ ε)
-    → NN (det (onSide a c.x (on t xOf)) (onSide b c.y (on t yOf)) (onSide e c.z (on t z_of)) *ℤ ε)
+    → pos 0 <ℤ (det (on_side b c.y (on t y_of)) (on_side e c.z (on t z_of)) ones *ℤ ε)
+    → pos 0 <ℤ (det (on_side e c.z (on t z_of)) (on_side a c.x (on t x_of)) ones *ℤ ε)
+    → pos 0 <ℤ (det (on_side a c.x (on t x_of)) (on_side b c.y (on t y_of)) ones *ℤ ε)
+    → NN (det (on_side a c.x (on t x_of)) (on_side b c.y (on t y_of)) (on_side e c.z (on t z_of)) *ℤ ε)
 corner-inside t c q a b e ε qx qy qz off nf ng nh =
     let V0 = vec 0 in let V1 = vec 1 in let V2 = vec 2 in let C = vec 3 in let Q = vec 4 in
     let A = var 15 in let B = var 16 in let E = var 17 in let U = var 18 in
-    let F = onSideᴱ A C.x (vector V0.x V1.x V2.x) in
-    let G = onSideᴱ B C.y (vector V0.y V1.y V2.y) in
-    let H = onSideᴱ E C.z (vector V0.z V1.z V2.z) in
+    let F = on_sideᴱ A C.x (vector V0.x V1.x V2.x) in
+    let G = on_sideᴱ B C.y (vector V0.y V1.y V2.y) in
+    let H = on_sideᴱ E C.z (vector V0.z V1.z V2.z) in
     by-nn (t.v0 at t.v1 at t.v2 at c at q at a ∷ b ∷ e ∷ ε ∷ []) (detᴱ F G H ⊗ U)
     (le (A ⊗ B ⊗ E ⊗ U ⊗ dotᴱ (crossᴱ (minusᴱ V1 V0) (minusᴱ V2 V0)) (minusᴱ Q V0)) (num 0) off
     ⊞ weak (ps (detᴱ G H onesᴱ ⊗ U) nf) ⊠ nn (A ⊗ (Q.x ⊖ C.x)) qx
@@ -103,15 +103,15 @@ corner-inside t c q a b e ε qx qy qz off nf ng nh =
 module _ {t : Triangle} {p d : Point} where
   -- weights that satisfy them are those of a triangle that reaches the box
   pub to-reach : (u v w : ℤ) → Weights (point u v w)
-      → Spans p.x d.x (on t xOf) (point u v w) → Spans p.y d.y (on t yOf) (point u v w) → Spans p.z d.z (on t z_of) (point u v w)
+      → Spans p.x d.x (on t x_of) (point u v w) → Spans p.y d.y (on t y_of) (point u v w) → Spans p.z d.z (on t z_of) (point u v w)
       → ReachesBox t p d
   to-reach (pos u) (pos v) (pos w) h x y z = record {
     w0 = u;
     w1 = v;
     w2 = w;
     some = omega (arith, lt-pos h.some);
-    x = (between t u v w xOf).1 x;
-    y = (between t u v w yOf).1 y;
+    x = (between t u v w x_of).1 x;
+    y = (between t u v w y_of).1 y;
     z = (between t u v w z_of).1 z;
   }
   to-reach (pos u) (pos v) (negsuc w) h x y z = absurd h.z.le
@@ -120,19 +120,19 @@ module _ {t : Triangle} {p d : Point} where
 
   module _ (size : Size d) (o : Passes t p d) where
     abbrev f : Side → Point
-    f = side p.x d.x (on t xOf)
+    f = side p.x d.x (on t x_of)
 
     abbrev g : Side → Point
-    g = side p.y d.y (on t yOf)
+    g = side p.y d.y (on t y_of)
 
     abbrev h : Side → Point
     h = side p.z d.z (on t z_of)
 
     three-sides : (α β γ : Side) → Feasible (f α ∷ g β ∷ h γ ∷ [])
     three-sides α β γ = octant (f α) (g β) (h γ) plane
-        (two-sides α β size.x size.y (normal-det (on t xOf) (on t yOf)) o.xy (o.x α) (o.y β))
-        (two-sides β γ size.y size.z (normal-det (on t yOf) (on t z_of)) o.yz (o.y β) (o.z γ))
-        (two-sides γ α size.z size.x (normal-det (on t z_of) (on t xOf)) o.zx (o.z γ) (o.x α))
+        (two-sides α β size.x size.y (normal-det (on t x_of) (on t y_of)) o.xy (o.x α) (o.y β))
+        (two-sides β γ size.y size.z (normal-det (on t y_of) (on t z_of)) o.yz (o.y β) (o.z γ))
+        (two-sides γ α size.z size.x (normal-det (on t z_of) (on t x_of)) o.zx (o.z γ) (o.x α))
       where
         plane : (ε : ℤ) → pos 0 <ℤ (det (g β) (h γ) ones *ℤ ε) → pos 0 <ℤ (det (h γ) (f α) ones *ℤ ε) → pos 0 <ℤ (det (f α) (g β) ones *ℤ ε)
             → NN (det (f α) (g β) (h γ) *ℤ ε)
@@ -143,7 +143,7 @@ module _ {t : Triangle} {p d : Point} where
 
     pub rule-to-reach : ReachesBox t p d
     rule-to-reach =
-        let m = six-sides {f = f} {g = g} {h = h} (facing p.x d.x (on t xOf) size.x) (facing p.y d.y (on t yOf) size.y)
+        let m = six-sides {f = f} {g = g} {h = h} (facing p.x d.x (on t x_of) size.x) (facing p.y d.y (on t y_of) size.y)
         (facing p.z d.z (on t z_of) size.z) three-sides in
         let (fl, (fh, (gl, (gh, (hl, (hh, _)))))) = m.sat in
         to-reach m.w.x m.w.y m.w.z m.ok (each-side (λ α. NN (dot (f α) m.w)) fl fh)

@@ -15,7 +15,7 @@ use Rattle.geometry.specs.declared.Point.{Point}
 use Rattle.geometry.specs.declared.Triangle.{Triangle}
 use Rattle.geometry.specs.Geometry.{point, dot, Axis}
 use Rattle.overlap.specs.Rule.{Side, low, high, step}
-use Rattle.reach.specs.Reaches.{Between, weightedSum}
+use Rattle.reach.specs.Reaches.{Between, weighted_sum}
 use Rattle.reach.proofs.Vectors.{Vector, vector, det, ones, dotᴱ, detᴱ, totalᴱ, onesᴱ, vec, ◌at◌}
 use Rattle.reach.proofs.Slab.{Facing}
 
@@ -40,14 +40,14 @@ against m = elim (≤-or-> (pos 0) m) [
 ]
 
 -- how far corners with the coordinates x are on the inner side of the side at c with the sign r
-abbrev pub onSide : (r c : ℤ) → Point → Point
-onSide r c x = point (r *ℤ (x.x -ℤ c)) (r *ℤ (x.y -ℤ c)) (r *ℤ (x.z -ℤ c))
+abbrev pub on_side : (r c : ℤ) → Point → Point
+on_side r c x = point (r *ℤ (x.x -ℤ c)) (r *ℤ (x.y -ℤ c)) (r *ℤ (x.z -ℤ c))
 
-abbrev pub onSideᴱ : (r c : Expr) → Vector → Vector
-onSideᴱ r c x = vector (r ⊗ (x.x ⊖ c)) (r ⊗ (x.y ⊖ c)) (r ⊗ (x.z ⊖ c))
+abbrev pub on_sideᴱ : (r c : Expr) → Vector → Vector
+on_sideᴱ r c x = vector (r ⊗ (x.x ⊖ c)) (r ⊗ (x.y ⊖ c)) (r ⊗ (x.z ⊖ c))
 
 abbrev pub side : (p d : ℤ) → Point → Side → Point
-side p d x α = onSide (sign α) (p +ℤ step α d) x
+side p d x α = on_side (sign α) (p +ℤ step α d) x
 
 -- what holds for the low side and for the high one
 pub each-side : (P : Side → Type 0) → P low → P high → (α : Side) → P α
@@ -65,7 +65,7 @@ pub record Size (d : Point) : Type 0 where
 pub facing : (p d : ℤ) (x : Point) → NN d → Facing (side p d x low) (side p d x high)
 facing p d x hd w h =
     let X = vec 0 in let W = vec 1 in let P = var 6 in let D = var 7 in
-    by-nn (x at w at p ∷ d ∷ []) (dotᴱ (onSideᴱ (num 1) (P ⊕ num 0) X) W ⊕ dotᴱ (onSideᴱ (lit (negsuc 0)) (P ⊕ D) X) W)
+    by-nn (x at w at p ∷ d ∷ []) (dotᴱ (on_sideᴱ (num 1) (P ⊕ num 0) X) W ⊕ dotᴱ (on_sideᴱ (lit (negsuc 0)) (P ⊕ D) X) W)
     (nn D hd ⊠ weak (ps (totalᴱ W) h.some)) tt
 
 -- no side of the box is beyond a side
@@ -80,7 +80,7 @@ abbrev pub Spans : (p d : ℤ) (x w : Point) → Type 0
 Spans p d x w = (α : Side) → NN (dot (side p d x α) w)
 
 pub between : (t : Triangle) {p d : Point} (w0 w1 w2 : ℕ) (a : Axis)
-    → Between p d (w0 + w1 + w2) a (weightedSum t w0 w1 w2 a) ↔ Spans (a p) (a d) (on t a) (point (pos w0) (pos w1) (pos w2))
+    → Between p d (w0 + w1 + w2) a (weighted_sum t w0 w1 w2 a) ↔ Spans (a p) (a d) (on t a) (point (pos w0) (pos w1) (pos w2))
 between t {p} {d} w0 w1 w2 a = (to-spans, to-between)
   where
     ρ : List ℤ
@@ -99,18 +99,18 @@ between t {p} {d} w0 w1 w2 a = (to-spans, to-between)
     D = var 7
 
     on-low : Expr
-    on-low = dotᴱ (onSideᴱ (num 1) (P ⊕ num 0) X) W
+    on-low = dotᴱ (on_sideᴱ (num 1) (P ⊕ num 0) X) W
 
     on-high : Expr
-    on-high = dotᴱ (onSideᴱ (lit (negsuc 0)) (P ⊕ D) X) W
+    on-high = dotᴱ (on_sideᴱ (lit (negsuc 0)) (P ⊕ D) X) W
 
-    to-between : Spans (a p) (a d) (on t a) (point (pos w0) (pos w1) (pos w2)) → Between p d (w0 + w1 + w2) a (weightedSum t w0 w1 w2 a)
+    to-between : Spans (a p) (a d) (on t a) (point (pos w0) (pos w1) (pos w2)) → Between p d (w0 + w1 + w2) a (weighted_sum t w0 w1 w2 a)
     to-between h = record {
       from = by_le ρ (P ⊗ totalᴱ W) (dotᴱ W X) (nn on-low (h low)) tt;
       to = by_le ρ (dotᴱ W X) ((P ⊕ D) ⊗ totalᴱ W) (nn on-high (h high)) tt;
     }
 
-    to-spans : Between p d (w0 + w1 + w2) a (weightedSum t w0 w1 w2 a) → Spans (a p) (a d) (on t a) (point (pos w0) (pos w1) (pos w2))
+    to-spans : Between p d (w0 + w1 + w2) a (weighted_sum t w0 w1 w2 a) → Spans (a p) (a d) (on t a) (point (pos w0) (pos w1) (pos w2))
     to-spans h low = by-nn ρ on-low (le (P ⊗ totalᴱ W) (dotᴱ W X) h.from) tt
     to-spans h high = by-nn ρ on-high (le (dotᴱ W X) ((P ⊕ D) ⊗ totalᴱ W) h.to) tt
 

@@ -11,7 +11,7 @@ use mathlib.Core.List.{[], ◌∷◌}
 use lib.Dec.{T}
 use lib.IntN.{ℤ, pos, negsuc, neg_ℤ, ◌+ℤ◌, ◌-ℤ◌, ◌*ℤ◌, +ℤ_idr, zero-*ℤ}
 use lib.Signed.{◌≤ℤ◌, le_z, lt_z, le_z_yes, ≤ℤ_refl}
-use Rattle.integers.specs.Order.{minℤ, maxℤ}
+use Rattle.integers.specs.Order.{min_ℤ, max_ℤ}
 use Rattle.integers.proofs.Laws.{NN, ≤_trans, ≤-add}
 use Rattle.integers.proofs.Expr.{Expr, lit, var, num, ◌⊕◌, ◌⊗◌, ◌⊖◌, neg}
 use Rattle.integers.proofs.Certificates.{nn, le, ze, ◌⊞◌, ◌⊹◌, by-nn, by_le, by-eq}
@@ -19,10 +19,10 @@ use Rattle.integers.proofs.MinMax.{min-≤-left, min-≤-right, min-either, ≤-
 use Rattle.integers.proofs.Orientation.{orientation, turned_by}
 use Rattle.geometry.specs.declared.Point.{Point}
 use Rattle.geometry.specs.declared.Triangle.{Triangle}
-use Rattle.geometry.specs.Geometry.{point, Axis, xOf, yOf, z_of}
-use Rattle.overlap.specs.Rule.{normal, boxHolds, Side, low, high, step, corner, offset, overSides, overCorners, planeHolds, turned, edgeValue, overlapsBox, greatest3, least3, greatest8, least8}
+use Rattle.geometry.specs.Geometry.{point, Axis, x_of, y_of, z_of}
+use Rattle.overlap.specs.Rule.{normal, box_holds, Side, low, high, step, corner, offset, over_sides, over_corners, plane_holds, turned, edge_value, overlaps_box, greatest3, least3, greatest8, least8}
 use Rattle.reach.proofs.Quadrant.{Some, IsSign, plus, minus}
-use Rattle.reach.proofs.Sides.{on, sign, onSide, side, each-side}
+use Rattle.reach.proofs.Sides.{on, sign, on_side, side, each-side}
 
 -- ---- a Boolean that tests a statement
 pub record Decides (b : Bool) (A : Type 0) : Type 0 where
@@ -68,20 +68,20 @@ inner-trans α a b c h k =
 
 -- the farthest of two numbers on the inner side: the greatest for a low side, the least for a high one
 abbrev farthest : Side → ℤ → ℤ → ℤ
-farthest low a b = maxℤ a b
-farthest high a b = minℤ a b
+farthest low a b = max_ℤ a b
+farthest high a b = min_ℤ a b
 
 farthest-is : (α : Side) (a b : ℤ) → (farthest α a b ≡ a) ⊎ (farthest α a b ≡ b)
 farthest-is low a b = max-either a b
 farthest-is high a b = min-either a b
 
 farthest-left : (α : Side) (a b : ℤ) → Inner α a (farthest α a b)
-farthest-left low a b = (inner-low a (maxℤ a b)).0 (≤-max-left a b)
-farthest-left high a b = (inner-high a (minℤ a b)).0 (min-≤-left a b)
+farthest-left low a b = (inner-low a (max_ℤ a b)).0 (≤-max-left a b)
+farthest-left high a b = (inner-high a (min_ℤ a b)).0 (min-≤-left a b)
 
 farthest-right : (α : Side) (a b : ℤ) → Inner α b (farthest α a b)
-farthest-right low a b = (inner-low b (maxℤ a b)).0 (≤-max-right a b)
-farthest-right high a b = (inner-high b (minℤ a b)).0 (min-≤-right a b)
+farthest-right low a b = (inner-low b (max_ℤ a b)).0 (≤-max-right a b)
+farthest-right high a b = (inner-high b (min_ℤ a b)).0 (min-≤-right a b)
 
 -- it is on the inner side exactly when one of the two is
 module _ (α : Side) (c : ℤ) where
@@ -95,7 +95,7 @@ module _ (α : Side) (c : ℤ) where
   )
 
   -- of three corners
-  of_three : (x : Point) → Inner α c (farthest α (farthest α x.x x.y) x.z) ↔ Some (onSide (sign α) c x)
+  of_three : (x : Point) → Inner α c (farthest α (farthest α x.x x.y) x.z) ↔ Some (on_side (sign α) c x)
   of_three x = (
     λ h. elim ((of_two (farthest α x.x x.y) x.z).0 h) [
       | inl k ↦ elim ((of_two x.x x.y).0 k) [ inl l ↦ inl l | inr l ↦ inr (inl l) ]
@@ -108,23 +108,23 @@ module _ (α : Side) (c : ℤ) where
   )
 
   -- of the two sides of an axis, and of the eight corners of a box
-  of-sides : (f : Side → ℤ) → Inner α c (overSides (farthest α) f) ↔ ((β : Side) × Inner α c (f β))
+  of-sides : (f : Side → ℤ) → Inner α c (over_sides (farthest α) f) ↔ ((β : Side) × Inner α c (f β))
   of-sides f = (λ h. elim ((of_two (f low) (f high)).0 h) [ inl k ↦ (low, k) | inr k ↦ (high, k) ], λ (β, h). (of_two (f low) (f high)).1 (this β h))
     where
       this : (β : Side) → Inner α c (f β) → Inner α c (f low) ⊎ Inner α c (f high)
       this low h = inl h
       this high h = inr h
 
-  of-corners : (f : Side → Side → Side → ℤ) → Inner α c (overCorners (farthest α) f) ↔ ((β : Side) × (γ : Side) × (δ : Side) × Inner α c (f β γ δ))
+  of-corners : (f : Side → Side → Side → ℤ) → Inner α c (over_corners (farthest α) f) ↔ ((β : Side) × (γ : Side) × (δ : Side) × Inner α c (f β γ δ))
   of-corners f = (
     λ h.
-        let (β, hβ) = (of-sides (λ β. overSides (farthest α) (λ γ. overSides (farthest α) (f β γ)))).0 h in
-        let (γ, hγ) = (of-sides (λ γ. overSides (farthest α) (f β γ))).0 hβ in
+        let (β, hβ) = (of-sides (λ β. over_sides (farthest α) (λ γ. over_sides (farthest α) (f β γ)))).0 h in
+        let (γ, hγ) = (of-sides (λ γ. over_sides (farthest α) (f β γ))).0 hβ in
         let (δ, hδ) = (of-sides (f β γ)).0 hγ in
         (β, γ, δ, hδ),
     λ (β, γ, δ, h).
-        (of-sides (λ β. overSides (farthest α) (λ γ. overSides (farthest α) (f β γ)))).1
-        (β, (of-sides (λ γ. overSides (farthest α) (f β γ))).1 (γ, (of-sides (f β γ)).1 (δ, h))),
+        (of-sides (λ β. over_sides (farthest α) (λ γ. over_sides (farthest α) (f β γ)))).1
+        (β, (of-sides (λ γ. over_sides (farthest α) (f β γ))).1 (γ, (of-sides (f β γ)).1 (δ, h))),
   )
 
 -- the least of some numbers is at most c and the greatest is at least b: some are on the inner side of the high side at c, and of the low side at b
@@ -136,7 +136,7 @@ two-sided P l g c b at_high at_low =
     restate (both least greatest) (λ (h, l). each-side P l h, λ h. (h high, h low))
 
 -- ---- the box and the plane
-box-test : (t : Triangle) (p d : Point) (a : Axis) → Decides (boxHolds t p d a) ((α : Side) → Some (side (a p) (a d) (on t a) α))
+box-test : (t : Triangle) (p d : Point) (a : Axis) → Decides (box_holds t p d a) ((α : Side) → Some (side (a p) (a d) (on t a) α))
 box-test t p d a =
     two-sided (λ α. Some (side (a p) (a d) (on t a) α)) (least3 a t) (greatest3 a t) (a p +ℤ a d) (a p)
     (of_three high (a p +ℤ a d) (on t a)) (of_three low (a p +ℤ pos 0) (on t a))
@@ -145,7 +145,7 @@ box-test t p d a =
 abbrev pub Cut : Triangle → (p d : Point) → Side → Type 0
 Cut t p d ε = (α : Side) × (β : Side) × (γ : Side) × Inner ε (pos 0) (offset t (corner p d α β γ))
 
-plane-test : (t : Triangle) (p d : Point) → Decides (planeHolds t p d) ((ε : Side) → Cut t p d ε)
+plane-test : (t : Triangle) (p d : Point) → Decides (plane_holds t p d) ((ε : Side) → Cut t p d ε)
 plane-test t p d =
     let f : Side → Side → Side → ℤ = λ α β γ. offset t (corner p d α β γ) in
     two-sided (Cut t p d) (least8 t p d) (greatest8 t p d) (pos 0) (pos 0) (of-corners high (pos 0) f) (of-corners low (pos 0) f)
@@ -160,11 +160,11 @@ orientation-sign n = go (lt_z n (pos 0))
     go false = plus
 
 -- of the multiples 0 · m and d · m, the greatest belongs to a side, and is at least that of either side
-greatest-at : (d m : ℤ) → (α : Side) × (maxℤ (pos 0) (d *ℤ m) ≡ step α d *ℤ m)
+greatest-at : (d m : ℤ) → (α : Side) × (max_ℤ (pos 0) (d *ℤ m) ≡ step α d *ℤ m)
 greatest-at d m = elim (max-either (pos 0) (d *ℤ m)) [ inl e ↦ (low, e ∙ sym (zero-*ℤ m)) | inr e ↦ (high, e) ]
 
-greatest-of : (d m : ℤ) (α : Side) → (step α d *ℤ m) ≤ℤ maxℤ (pos 0) (d *ℤ m)
-greatest-of d m low = subst (λ z. z ≤ℤ maxℤ (pos 0) (d *ℤ m)) (sym (zero-*ℤ m)) (≤-max-left (pos 0) (d *ℤ m))
+greatest-of : (d m : ℤ) (α : Side) → (step α d *ℤ m) ≤ℤ max_ℤ (pos 0) (d *ℤ m)
+greatest-of d m low = subst (λ z. z ≤ℤ max_ℤ (pos 0) (d *ℤ m)) (sym (zero-*ℤ m)) (≤-max-left (pos 0) (d *ℤ m))
 greatest-of d m high = ≤-max-right (pos 0) (d *ℤ m)
 
 -- In a coordinate plane, an edge goes from (x, y) to (x', y'): how far the point (c, k) is on the side σ of it.
@@ -183,7 +183,7 @@ pub record EdgeTest (σ p d q e x y x' y' : ℤ) : Type 0 where
 module _ (n p d q e x y x' y' : ℤ) where
   -- the rule's value: m · (p, q) − m · (x, y), and the greatest multiple on each axis
   abbrev value : ℤ
-  value = edgeValue xOf yOf n (point (x' -ℤ x) (y' -ℤ y) (pos 0)) (point x y (pos 0)) (point p q (pos 0)) (point d e (pos 0))
+  value = edge_value x_of y_of n (point (x' -ℤ x) (y' -ℤ y) (pos 0)) (point x y (pos 0)) (point p q (pos 0)) (point d e (pos 0))
 
   abbrev ma : ℤ
   ma = turned n (neg_ℤ (y' -ℤ y))
@@ -232,21 +232,21 @@ module _ (n p d q e : ℤ) (x y : Point) where
 
 -- ---- the rule
 pub record Passes (t : Triangle) (p d : Point) : Type 0 where
-  pub x : (α : Side) → Some (side p.x d.x (on t xOf) α)
-  pub y : (α : Side) → Some (side p.y d.y (on t yOf) α)
+  pub x : (α : Side) → Some (side p.x d.x (on t x_of) α)
+  pub y : (α : Side) → Some (side p.y d.y (on t y_of) α)
   pub z : (α : Side) → Some (side p.z d.z (on t z_of) α)
   pub plane : (ε : Side) → Cut t p d ε
-  pub xy : EdgeTests (orientation (normal t).z) p.x d.x p.y d.y (on t xOf) (on t yOf)
-  pub yz : EdgeTests (orientation (normal t).x) p.y d.y p.z d.z (on t yOf) (on t z_of)
-  pub zx : EdgeTests (orientation (normal t).y) p.z d.z p.x d.x (on t z_of) (on t xOf)
+  pub xy : EdgeTests (orientation (normal t).z) p.x d.x p.y d.y (on t x_of) (on t y_of)
+  pub yz : EdgeTests (orientation (normal t).x) p.y d.y p.z d.z (on t y_of) (on t z_of)
+  pub zx : EdgeTests (orientation (normal t).y) p.z d.z p.x d.x (on t z_of) (on t x_of)
 
-pub rule-tests : (t : Triangle) (p d : Point) → Decides (overlapsBox t p d) (Passes t p d)
-unfolding overlapsBox
+pub rule-tests : (t : Triangle) (p d : Point) → Decides (overlaps_box t p d) (Passes t p d)
+unfolding overlaps_box
 rule-tests t p d =
-    let boxes = both (both (box-test t p d xOf) (box-test t p d yOf)) (box-test t p d z_of) in
-    let xy = edge-tests (normal t).z p.x d.x p.y d.y (on t xOf) (on t yOf) in
-    let yz = edge-tests (normal t).x p.y d.y p.z d.z (on t yOf) (on t z_of) in
-    let zx = edge-tests (normal t).y p.z d.z p.x d.x (on t z_of) (on t xOf) in
+    let boxes = both (both (box-test t p d x_of) (box-test t p d y_of)) (box-test t p d z_of) in
+    let xy = edge-tests (normal t).z p.x d.x p.y d.y (on t x_of) (on t y_of) in
+    let yz = edge-tests (normal t).x p.y d.y p.z d.z (on t y_of) (on t z_of) in
+    let zx = edge-tests (normal t).y p.z d.z p.x d.x (on t z_of) (on t x_of) in
     restate (both (both (both (both boxes (plane-test t p d)) xy) yz) zx) (
       λ ((((((x, y), z), plane), xy), yz), zx). record { x = x; y = y; z = z; plane = plane; xy = xy; yz = yz; zx = zx },
       λ r. ((((((r.x, r.y), r.z), r.plane), r.xy), r.yz), r.zx),

@@ -12,8 +12,8 @@ use Rattle.integers.proofs.Expr.{var, ◌⊗◌}
 use Rattle.integers.proofs.Certificates.{nn, le, ◌⊞◌, ◌⊠◌, by_le}
 use Rattle.geometry.specs.declared.Point.{Point}
 use Rattle.geometry.specs.declared.Triangle.{Triangle}
-use Rattle.geometry.specs.Geometry.{Axis, xOf, yOf, z_of, cube}
-use Rattle.overlap.specs.Rule.{overlapsBox}
+use Rattle.geometry.specs.Geometry.{Axis, x_of, y_of, z_of, cube}
+use Rattle.overlap.specs.Rule.{overlaps_box}
 use Rattle.reach.specs.Reaches.{Between, ReachesBox, Reaches}
 use Rattle.reach.proofs.Sides.{Size}
 use Rattle.reach.proofs.Tests.{rule-tests}
@@ -21,11 +21,11 @@ use Rattle.reach.proofs.RuleToReach.{rule-to-reach}
 use Rattle.reach.proofs.ReachToRule.{reach-to-rule}
 
 -- a box
-pub box-rule : (t : Triangle) (p d : Point) → Size d → T (overlapsBox t p d) ↔ ReachesBox t p d
+pub box-rule : (t : Triangle) (p d : Point) → Size d → T (overlaps_box t p d) ↔ ReachesBox t p d
 box-rule t p d size = (λ h. rule-to-reach size ((rule-tests t p d).iff.0 h), λ r. (rule-tests t p d).iff.1 (reach-to-rule r))
 
 -- a cell
-pub cell-rule : (t : Triangle) (p : Point) (s : ℤ) → pos 0 ≤ℤ s → T (overlapsBox t p (cube s)) ↔ Reaches t p s
+pub cell-rule : (t : Triangle) (p : Point) (s : ℤ) → pos 0 ≤ℤ s → T (overlaps_box t p (cube s)) ↔ Reaches t p s
 cell-rule t p s h = box-rule t p (cube s) (record { x = h; y = h; z = h })
 
 -- ---- a box around a box, from p' to p' + d', around p to p + d on an axis
@@ -43,6 +43,6 @@ wider {p} {d} {p'} {d'} {w} {a} {s} h b =
       to = by_le ρ S (Q' ⊗ W) (le S (Q ⊗ W) b.to ⊞ nn W (nn-pos w) ⊠ le Q Q' h.high) tt;
     }
 
-module _ (t : Triangle) {p d p' d' : Point} (x : Around p d p' d' xOf) (y : Around p d p' d' yOf) (z : Around p d p' d' z_of) where
+module _ (t : Triangle) {p d p' d' : Point} (x : Around p d p' d' x_of) (y : Around p d p' d' y_of) (z : Around p d p' d' z_of) where
   pub reaches-around : ReachesBox t p d → ReachesBox t p' d'
   reaches-around r = record { w0 = r.w0; w1 = r.w1; w2 = r.w2; some = r.some; x = wider x r.x; y = wider y r.y; z = wider z r.z }

@@ -17,7 +17,7 @@ use native.Mathlib.Decide.{dec_lt}
 use native.Mathlib.Numerals.{add-one}
 use native.Mathlib.Omega.{arith}
 use Rattle.refusal.specs.Limit.{Answer, gives, refused}
-use Rattle.refusal.specs.Questions.{Question, answered, ofEach}
+use Rattle.refusal.specs.Questions.{Question, answered, of_each}
 use Rattle.refusal.specs.Inner.{Passing, passed, asked}
 
 module _ {A : Type 0} (a : A) (q : Question) (qs : List Question) where
@@ -81,32 +81,32 @@ module _ {A : Type 0} (x : A) where
       go (refused m q) h = let z : ◌≡◌ {A = ℕ} 0 1 = cc in absurd (omega arith)
 
 module _ (q : ℕ → Question) where
-  pub each_none : asked (ofEach q 0) ≡ passed
-  unfolding answered ofEach
+  pub each_none : asked (of_each q 0) ≡ passed
+  unfolding answered of_each
   each_none = refl
 
-  each-suc : (n : ℕ) → asked (ofEach q (suc n)) ≡ and_then (asked (ofEach q n)) (asked (q n ∷ []))
-  unfolding ofEach
-  each-suc n = first-append tt (ofEach q n) (q n ∷ [])
+  each-suc : (n : ℕ) → asked (of_each q (suc n)) ≡ and_then (asked (of_each q n)) (asked (q n ∷ []))
+  unfolding of_each
+  each-suc n = first-append tt (of_each q n) (q n ∷ [])
 
-  pub each_more : (i : ℕ) → asked (ofEach q i) ≡ passed → (q i).holds ≡ true → asked (ofEach q (i + 1)) ≡ passed
+  pub each_more : (i : ℕ) → asked (of_each q i) ≡ passed → (q i).holds ≡ true → asked (of_each q (i + 1)) ≡ passed
   unfolding answered
   each_more i h e = rw (add-one i, each-suc i, h, e)
 
-  pub each-no : (i n : ℕ) → i < n → asked (ofEach q i) ≡ passed → (q i).holds ≡ false → asked (ofEach q n) ≡ refused (q i).number (q i).place
+  pub each-no : (i n : ℕ) → i < n → asked (of_each q i) ≡ passed → (q i).holds ≡ false → asked (of_each q n) ≡ refused (q i).number (q i).place
   unfolding answered
   each-no i zero l h e = absurd (not-suc-le-zero l)
   each-no i (suc n) l h e = go (dec_lt i n) (each-no i n)
     where
-      go : Dec (i < n) → (i < n → asked (ofEach q i) ≡ passed → (q i).holds ≡ false → asked (ofEach q n) ≡ refused (q i).number (q i).place)
-          → asked (ofEach q (suc n)) ≡ refused (q i).number (q i).place
+      go : Dec (i < n) → (i < n → asked (of_each q i) ≡ passed → (q i).holds ≡ false → asked (of_each q n) ≡ refused (q i).number (q i).place)
+          → asked (of_each q (suc n)) ≡ refused (q i).number (q i).place
       go (yes m) ih = rw (each-suc n, ih m h e)
       go (no m) ih = let same : n ≡ i = omega arith in rw (same, each-suc i, h, e)
 
-  pub each-passed : (n : ℕ) → asked (ofEach q n) ≡ passed → (i : ℕ) → i < n → (q i).holds ≡ true
+  pub each-passed : (n : ℕ) → asked (of_each q n) ≡ passed → (i : ℕ) → i < n → (q i).holds ≡ true
   each-passed zero h i l = absurd (not-suc-le-zero l)
   each-passed (suc n) h i l =
-      let both = both-passed (asked (ofEach q n)) (asked (q n ∷ [])) (sym (each-suc n) ∙ h) in
+      let both = both-passed (asked (of_each q n)) (asked (q n ∷ [])) (sym (each-suc n) ∙ h) in
       go (dec_lt i n) (each-passed n both.0 i) both.1
     where
       go : Dec (i < n) → (i < n → (q i).holds ≡ true) → asked (q n ∷ []) ≡ passed → (q i).holds ≡ true

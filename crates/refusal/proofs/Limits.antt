@@ -8,14 +8,14 @@ use Prim.Native.Nat.{ℕ}
 use lib.Dec.{eqb}
 use Rattle.refusal.specs.declared.Limit.{Limit}
 use Rattle.refusal.specs.declared.Limit.TheVariants.{ShortHeader, Version, ZeroEdge, ReservedBits, Extent, FileLength, UnusedKind, ShortMap, PointCount, PointOutside, ShortOutput, Unwritable, PlyForm, PlyVertex, PlyFace, CellOutside}
-use Rattle.refusal.specs.Limit.{Answer, refusalOf, saidLimit}
+use Rattle.refusal.specs.Limit.{Answer, refusal_of, said_limit}
 
 -- Number n where it is asked for, and else another limit.
 abbrev is : (n m : ℕ) → Limit → Limit → Limit
 is n m l other = cond (eqb n m) l other
 
-abbrev limitOf : (number place : ℕ) → Limit
-limitOf n p =
+abbrev limit_of : (number place : ℕ) → Limit
+limit_of n p =
     is n 1 ShortHeader
     (is n 2 Version
     (is n 3 ZeroEdge
@@ -33,7 +33,7 @@ limitOf n p =
     (is n 15 (PlyFace p)
     (is n 16 CellOutside ShortHeader)))))))))))))))
 
-pub limit-back : (l : Limit) → limitOf (refusalOf l).number (refusalOf l).place ≡ l
+pub limit-back : (l : Limit) → limit_of (refusal_of l).number (refusal_of l).place ≡ l
 limit-back ShortHeader = refl
 limit-back Version = refl
 limit-back ZeroEdge = refl
@@ -51,8 +51,8 @@ limit-back (PlyVertex k) = refl
 limit-back (PlyFace f) = refl
 limit-back CellOutside = refl
 
-pub limit-one : {A : Type 0} (l k : Limit) → ◌≡◌ {A = Answer A} (saidLimit l) (saidLimit k) → l ≡ k
+pub limit-one : {A : Type 0} (l k : Limit) → ◌≡◌ {A = Answer A} (said_limit l) (said_limit k) → l ≡ k
 limit-one l k e =
-    let number : (refusalOf l).number ≡ (refusalOf k).number = cc in
-    let place : (refusalOf l).place ≡ (refusalOf k).place = cc in
-    sym (limit-back l) ∙ ap₂ limitOf number place ∙ limit-back k
+    let number : (refusal_of l).number ≡ (refusal_of k).number = cc in
+    let place : (refusal_of l).place ≡ (refusal_of k).place = cc in
+    sym (limit-back l) ∙ ap₂ limit_of number place ∙ limit-back k

@@ -2,7 +2,7 @@
 use Rattle.std.specs.Prelude.{List}
 use Rattle.refusal.specs.declared.Verdict.{Verdict}
 use Rattle.refusal.specs.declared.Verdict.TheVariants.{Passed, Broken}
-use Rattle.refusal.specs.Limit.{Answer, gives, saidLimit}
+use Rattle.refusal.specs.Limit.{Answer, gives, said_limit}
 use Rattle.refusal.specs.Questions.{Question, answered}
 
 -- What the questions alone say: passed, or the first "no".
@@ -16,6 +16,6 @@ abbrev pub asked : List Question → Passing
 asked qs = answered qs tt
 
 -- What each case of the code's enum says.
-abbrev pub saidVerdict : Verdict → Passing
-saidVerdict Passed = passed
-saidVerdict (Broken l) = saidLimit l
+abbrev pub said_verdict : Verdict → Passing
+said_verdict Passed = passed
+said_verdict (Broken l) = said_limit l

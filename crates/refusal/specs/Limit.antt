@@ -13,29 +13,29 @@ abbrev pub numbered : ℕ → ℕ → Refusal
 numbered n p = record { number = n; place = p }
 
 -- The number of the question that a broken limit answers with "no", and the place. The place is 0 unless stated.
-abbrev pub refusalOf : Limit → Refusal
-refusalOf ShortHeader = numbered 1 0
-refusalOf Version = numbered 2 0
-refusalOf ZeroEdge = numbered 3 0
-refusalOf ReservedBits = numbered 4 0
-refusalOf Extent = numbered 5 0
-refusalOf FileLength = numbered 6 0
-refusalOf (UnusedKind i) = numbered 7 i
-refusalOf ShortMap = numbered 8 0
-refusalOf PointCount = numbered 9 0
-refusalOf (PointOutside m) = numbered 10 m
-refusalOf ShortOutput = numbered 11 0
-refusalOf Unwritable = numbered 12 0
-refusalOf PlyForm = numbered 13 0
-refusalOf (PlyVertex k) = numbered 14 k
-refusalOf (PlyFace f) = numbered 15 f
-refusalOf CellOutside = numbered 16 0
+abbrev pub refusal_of : Limit → Refusal
+refusal_of ShortHeader = numbered 1 0
+refusal_of Version = numbered 2 0
+refusal_of ZeroEdge = numbered 3 0
+refusal_of ReservedBits = numbered 4 0
+refusal_of Extent = numbered 5 0
+refusal_of FileLength = numbered 6 0
+refusal_of (UnusedKind i) = numbered 7 i
+refusal_of ShortMap = numbered 8 0
+refusal_of PointCount = numbered 9 0
+refusal_of (PointOutside m) = numbered 10 m
+refusal_of ShortOutput = numbered 11 0
+refusal_of Unwritable = numbered 12 0
+refusal_of PlyForm = numbered 13 0
+refusal_of (PlyVertex k) = numbered 14 k
+refusal_of (PlyFace f) = numbered 15 f
+refusal_of CellOutside = numbered 16 0
 
 -- What a call says that is refused for a limit.
-abbrev pub saidLimit : {A : Type 0} → Limit → Answer A
-saidLimit l = refused (refusalOf l).number (refusalOf l).place
+abbrev pub said_limit : {A : Type 0} → Limit → Answer A
+said_limit l = refused (refusal_of l).number (refusal_of l).place
 
 -- Bytes that a call replaces. After a refusal they are what they were.
-abbrev pub unlessRefused : {A : Type 0} → Answer A → (new old : List ℕ) → List ℕ
-unlessRefused (gives a) new old = new
-unlessRefused (refused n p) new old = old
+abbrev pub unless_refused : {A : Type 0} → Answer A → (new old : List ℕ) → List ℕ
+unless_refused (gives a) new old = new
+unless_refused (refused n p) new old = old

@@ -14,8 +14,8 @@ abbrev pub ◌asks◌ : ℕ → Bool → Question
 n asks b = record { number = n; place = 0; holds = b }
 
 -- Question n of an item, whose number is the place.
-abbrev pub asksOf : (n item : ℕ) → Bool → Question
-asksOf n i b = record { number = n; place = i; holds = b }
+abbrev pub asks_of : (n item : ℕ) → Bool → Question
+asks_of n i b = record { number = n; place = i; holds = b }
 
 -- The first "no" ends the call with its number. A call with no "no" is never refused: it gives its value.
 unfoldable pub answered : {A : Type 0} → List Question → A → Answer A
@@ -23,6 +23,6 @@ answered [] a = gives a
 answered (q ∷ qs) a = elim q.holds [ true ↦ answered qs a | false ↦ refused q.number q.place ]
 
 -- The same question of each item below n, the lowest first.
-unfoldable pub ofEach : (ℕ → Question) → ℕ → List Question
-ofEach q zero = []
-ofEach q (suc n) = ofEach q n ++ (q n ∷ [])
+unfoldable pub of_each : (ℕ → Question) → ℕ → List Question
+of_each q zero = []
+of_each q (suc n) = of_each q n ++ (q n ∷ [])

@@ -1,6 +1,6 @@
 // Refusals: the limits that an input may break, and the number and the place that a refused call says.
 ghost use Rattle.std.specs.Prelude.{◌≡◌};
-ghost use Rattle.refusal.specs.Limit.{numbered, refusalOf};
+ghost use Rattle.refusal.specs.Limit.{numbered, refusal_of};
 
 // A limit that an input breaks, named by what is wrong with it.
 #[derive(Drop)]
@@ -40,7 +40,7 @@ fn numbered(number: u32, place: usize) -> Refusal
 impl Limit {
     // The number and the place of a limit.
     pub fn refusal(self) -> Refusal
-        ensures { result ≡ refusalOf self }
+        ensures { result ≡ refusal_of self }
     {
         match self {
             Limit::ShortHeader => numbered(1, 0),

@@ -12,7 +12,7 @@ use lib.Pow.{pow-add}
 use lib.Seq.{get_or-append_seam, take-add, drop-drop}
 use Rattle.bits.specs.Field.{field_at, bytes_of}
 use Rattle.bits.proofs.Pens.{byte_more, length-bytes}
-use Rattle.frame_write.specs.Write.{concatBelow}
+use Rattle.frame_write.specs.Write.{concat_below}
 
 pub field-bytes : (n m : ℕ) (rest : List ℕ) → m < 2 ^ (n * 8) → field_at (bytes_of n m ++ rest) 0 (n * 8) ≡ m
 unfolding bytes_of field_at
@@ -25,8 +25,8 @@ field-bytes (suc n) m rest h =
     let front = field-bytes n (m / 256) (m % 256 ∷ rest) (omega (arith, more)) in
     ap (λ (t : List ℕ). field_at t 0 (suc n * 8)) same ∙ byte_more s n (omega (arith, last)) ∙ omega (arith, front, last)
 
-pub pieces-cut : {A : Type 0} (h k : ℕ) (s : List A) (n : ℕ) → concatBelow (λ i. take k (drop (h + k * i) s)) n ≡ take (k * n) (drop h s)
-unfolding concatBelow
+pub pieces-cut : {A : Type 0} (h k : ℕ) (s : List A) (n : ℕ) → concat_below (λ i. take k (drop (h + k * i) s)) n ≡ take (k * n) (drop h s)
+unfolding concat_below
 pieces-cut h k s zero = ap (λ (m : ℕ). take m (drop h s)) {x = 0} {y = k * 0} (omega arith)
 pieces-cut h k s (suc n) =
     ap₂ ◌++◌ (pieces-cut h k s n) (ap (take k) (sym (drop-drop (k * n) h s)))

@@ -5,28 +5,28 @@ use Rattle.refusal.specs.Questions.{answered}
 use Rattle.layout.specs.declared.Header.{Header}
 use Rattle.layout.specs.declared.Layout.{Layout}
 use Rattle.layout.specs.Layout.{version1}
-use Rattle.layout.specs.Values.{headerIn, recordIn, fromRecord}
-use Rattle.frame.specs.File.{headerOf}
-use Rattle.frame.specs.Questions.{questionsBy, checked}
-use Rattle.numbers.specs.Numbers.{recordNumbers}
+use Rattle.layout.specs.Values.{header_in, record_in, from_record}
+use Rattle.frame.specs.File.{header_of}
+use Rattle.frame.specs.Questions.{questions_by, checked}
+use Rattle.numbers.specs.Numbers.{record_numbers}
 use Rattle.frame_write.specs.declared.GridValues.{GridValues}
-use Rattle.frame_write.specs.Write.{concatBelow, writing, writtenBytes}
+use Rattle.frame_write.specs.Write.{concat_below, writing, written_bytes}
 
 -- The grid's values that a header has.
-abbrev pub gridValuesOf : Header → GridValues
-gridValuesOf h =
+abbrev pub grid_values_of : Header → GridValues
+grid_values_of h =
     let g = h.grid in
     record { nx = pos g.nx; ny = pos g.ny; nz = pos g.nz; edge = g.edge; x = g.origin.x; y = g.origin.y; z = g.origin.z }
 
 -- The ten numbers of each of the first n records of a file, one record behind the other.
-abbrev pub recordsNumbers : Layout → List ℕ → (n : ℕ) → List ℤ
-recordsNumbers l s n = concatBelow (λ i. recordNumbers (recordIn l (fromRecord l s i))) n
+abbrev pub records_numbers : Layout → List ℕ → (n : ℕ) → List ℤ
+records_numbers l s n = concat_below (λ i. record_numbers (record_in l (from_record l s i))) n
 
 -- Read by this layout, the bytes s are accepted, and they have these grid values and these triangles, all of them, in order.
 pub record Reads (l : Layout) (g : GridValues) (zs : List ℤ) (s : List ℕ) : Type 0 where
-  pub accepted : answered (questionsBy l (headerIn l s) s) (headerIn l s) ≡ gives (headerIn l s)
-  pub grid : gridValuesOf (headerIn l s) ≡ g
-  pub numbers : recordsNumbers l s (headerIn l s).count ≡ zs
+  pub accepted : answered (questions_by l (header_in l s) s) (header_in l s) ≡ gives (header_in l s)
+  pub grid : grid_values_of (header_in l s) ≡ g
+  pub numbers : records_numbers l s (header_in l s).count ≡ zs
 
 -- ---- the two claims
 -- Reading a written file yields the values given: the n bytes that a writing put at the start of the output are accepted, and
@@ -34,11 +34,11 @@ pub record Reads (l : Layout) (g : GridValues) (zs : List ℤ) (s : List ℕ) : 
 abbrev pub WriteThenRead : Type 0
 WriteThenRead =
     (g : GridValues) (zs : List ℤ) (out : List ℕ) (n : ℕ) → writing g zs (length out) ≡ gives n
-    → let s = take n (writtenBytes g zs out) in (length s ≡ n) × (checked s ≡ gives (headerOf s)) × Reads version1 g zs s
+    → let s = take n (written_bytes g zs out) in (length s ≡ n) × (checked s ≡ gives (header_of s)) × Reads version1 g zs s
 
 -- Writing what was read from an accepted file yields its bytes, and its length, wherever they have room.
 abbrev pub ReadThenWrite : Type 0
 ReadThenWrite =
     (s : List ℕ) (h : Header) → ((i : ℕ) → get_or s i 0 < 256) → checked s ≡ gives h → (out : List ℕ) → length s ≤ length out
-    → let zs = recordsNumbers version1 s h.count in
-    (writing (gridValuesOf h) zs (length out) ≡ gives (length s)) × (writtenBytes (gridValuesOf h) zs out ≡ s ++ drop (length s) out)
+    → let zs = records_numbers version1 s h.count in
+    (writing (grid_values_of h) zs (length out) ≡ gives (length s)) × (written_bytes (grid_values_of h) zs out ≡ s ++ drop (length s) out)

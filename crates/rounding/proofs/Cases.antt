@@ -1,4 +1,4 @@
--- What the tests of `nearest` say of a float, and what `roundedOf` is in each case.
+-- What the tests of `nearest` say of a float, and what `rounded_of` is in each case.
 --     sum-value, sum-le, difference   between the ends: the sum, and what is left of it
 --     ranged, in-range                there the nearest number is in the range
 --     too-low, too-high               beyond an end it is not
@@ -16,8 +16,8 @@ use Rattle.rounding.specs.declared.Rounded.{Rounded}
 use Rattle.rounding.specs.declared.Rounded.TheVariants.{Whole, OutOfRange}
 use Rattle.rounding.proofs.Near.{Near, near-closest, at_most, more-than, below, not-below}
 use Rattle.rounding.proofs.Sums.{shift, shift_is, mid, plus-value, minus-value}
-use Rattle.rounding.specs.Rounding.{roundedOf, in_range, whole_of, isWhole}
-use Rattle.rounding.specs.Inner.{refusedAs}
+use Rattle.rounding.specs.Rounding.{rounded_of, in_range, whole_of, is_whole}
+use Rattle.rounding.specs.Inner.{refused_as}
 
 -- -8,192.5 and 8,191.5
 abbrev pub lowest : Float
@@ -139,13 +139,13 @@ sum-le (fin false m e) l h = small (closest (m * up e) (down e)) (within-hi m e 
 
 -- the difference is the nearest whole number
 
-pickZ : (b : Bool) (x y : ℤ) → T b → cond b x y ≡ x
-pickZ true x y t = refl
-pickZ false x y t = absurd t
+pick_z : (b : Bool) (x y : ℤ) → T b → cond b x y ≡ x
+pick_z true x y t = refl
+pick_z false x y t = absurd t
 
 back : (c : ℕ) → c ≤ 8192 → pos (mid - c) -ℤ pos mid ≡ neg_ℤ (pos c)
 back zero h = refl
-back (suc k) h = pickZ (ltb (mid - suc k) mid) (negsuc (mid - suc (mid - suc k))) (pos (mid - suc k - mid)) (lt→ltb (mid - suc k) mid (low k)) ∙ ap negsuc (same k h)
+back (suc k) h = pick_z (ltb (mid - suc k) mid) (negsuc (mid - suc (mid - suc k))) (pos (mid - suc k - mid)) (lt→ltb (mid - suc k) mid (low k)) ∙ ap negsuc (same k h)
   where
     low : (k : ℕ) → mid - suc k < mid
     low k = omega arith
@@ -159,15 +159,15 @@ difference (inf s) l h = absurd (no-inf s l h)
 difference (fin true m e) l h = back (closest (m * up e) (down e)) (within-lo m e l)
 difference (fin false m e) l h = ap (λ (z : ℤ). z -ℤ pos mid) (sym (pos-+ℤ-pos (closest (m * up e) (down e)) mid)) ∙ +ℤ-neg_ℤ_cancel (pos (closest (m * up e) (down e))) (pos mid)
 
--- ---- `roundedOf` in each case
+-- ---- `rounded_of` in each case
 
 pick_r : (b : Bool) (x y : Rounded) → T b → cond b x y ≡ x
 pick_r true x y t = refl
 pick_r false x y t = absurd t
 
-skipR : (b : Bool) (x y : Rounded) → T (not b) → cond b x y ≡ y
-skipR true x y t = absurd t
-skipR false x y t = refl
+skip_r : (b : Bool) (x y : Rounded) → T (not b) → cond b x y ≡ y
+skip_r true x y t = absurd t
+skip_r false x y t = refl
 
 in-lo : (c : ℕ) → c ≤ 8192 → T (in_range (neg_ℤ (pos c)))
 in-lo zero h = tt
@@ -187,7 +187,7 @@ ranged (inf s) l h = absurd (no-inf s l h)
 ranged (fin true m e) l h = in-lo (closest (m * up e) (down e)) (within-lo m e l)
 ranged (fin false m e) l h = le→leb (closest (m * up e) (down e)) 8191 (within-hi m e h)
 
-pub in-range : (x : Float) → T (le lowest x) → T (lt x highest) → roundedOf x ≡ Whole (whole_of x)
+pub in-range : (x : Float) → T (le lowest x) → T (lt x highest) → rounded_of x ≡ Whole (whole_of x)
 in-range nan l h = absurd (no_nan h)
 in-range (inf s) l h = absurd (no-inf s l h)
 in-range (fin s m e) l h = pick_r (in_range (whole_of (fin s m e))) (Whole (whole_of (fin s m e))) OutOfRange (ranged (fin s m e) l h)
@@ -204,33 +204,33 @@ no-hi : (m : ℕ) (e : ℤ) → T (not (lt (fin true m e) highest)) → ⊥
 unfolding lt
 no-hi m e h = let d = down_pos e in let z = nltb→le 0 (m * up e * 2 + 16383 * 1 * down e) h in omega arith
 
-pub too-low : (x : Float) → T (not (le lowest x)) → roundedOf x ≡ refusedAs x
+pub too-low : (x : Float) → T (not (le lowest x)) → rounded_of x ≡ refused_as x
 too-low nan h = refl
 too-low (inf s) h = refl
 too-low (fin true m e) h =
     let c = closest (m * up e) (down e) in
-    skipR (in_range (neg_ℤ (pos c))) (Whole (neg_ℤ (pos c))) OutOfRange (out-lo c (more-than (m * up e) (down e) c (down_pos e) (near m e) (lo-no m e h)))
+    skip_r (in_range (neg_ℤ (pos c))) (Whole (neg_ℤ (pos c))) OutOfRange (out-lo c (more-than (m * up e) (down e) c (down_pos e) (near m e) (lo-no m e h)))
 too-low (fin false m e) h = absurd (no-lo m e h)
 
-pub too-high : (x : Float) → T (not (lt x highest)) → roundedOf x ≡ refusedAs x
+pub too-high : (x : Float) → T (not (lt x highest)) → rounded_of x ≡ refused_as x
 too-high nan h = refl
 too-high (inf s) h = refl
 too-high (fin true m e) h = absurd (no-hi m e h)
 too-high (fin false m e) h =
     let c = closest (m * up e) (down e) in
-    skipR (leb c 8191) (Whole (pos c)) OutOfRange (lt→nleb c 8191 (not-below (m * up e) (down e) c (down_pos e) (near m e) (hi-no m e h)))
+    skip_r (leb c 8191) (Whole (pos c)) OutOfRange (lt→nleb c 8191 (not-below (m * up e) (down e) c (down_pos e) (near m e) (hi-no m e h)))
 
 -- ---- back: a number of the range is between the ends
-no_whole : (x : Float) → isWhole (refusedAs x) ≡ false
+no_whole : (x : Float) → is_whole (refused_as x) ≡ false
 no_whole nan = refl
 no_whole (inf s) = refl
 no_whole (fin s m e) = refl
 
-by-test : (x : Float) (b : Bool) → isWhole (roundedOf x) ≡ true → (T (not b) → roundedOf x ≡ refusedAs x) → T b
+by-test : (x : Float) (b : Bool) → is_whole (rounded_of x) ≡ true → (T (not b) → rounded_of x ≡ refused_as x) → T b
 by-test x true w f = tt
-by-test x false w f = absurd (true≢false (sym w ∙ ap isWhole (f tt) ∙ no_whole x))
+by-test x false w f = absurd (true≢false (sym w ∙ ap is_whole (f tt) ∙ no_whole x))
 
-pub tested : (x : Float) → isWhole (roundedOf x) ≡ true → T (le lowest x) × T (lt x highest)
+pub tested : (x : Float) → is_whole (rounded_of x) ≡ true → T (le lowest x) × T (lt x highest)
 tested x w = (by-test x (le lowest x) w (too-low x), by-test x (lt x highest) w (too-high x))
 
 -- ---- what the code's tests say

@@ -10,7 +10,7 @@ use lib.Ieee.Fits.{and_l}
 use mir.ValLaws.{to_z-of_z}
 use Rattle.rounding.proofs.Sums.{shift, mid, as-i64}
 use Rattle.rounding.proofs.Cases.{lowest, highest, sum_of, sum-value, sum-le, difference, ranged, in-range}
-use Rattle.rounding.specs.Rounding.{in_range, whole_of, roundedOf, millimetres}
+use Rattle.rounding.specs.Rounding.{in_range, whole_of, rounded_of, millimetres}
 
 fits32 : (r : ℤ) → T (in_range r) → SFits w32 r
 fits32 (pos n) t = let k = leb→le n 8191 t in record { sfits = omega arith }
@@ -52,5 +52,5 @@ module _ (x : Float) (l : T (le lowest x)) (h : T (lt x highest)) where
   pub whole-fits : SFits w32 (to_z w64 (of_z w64 less))
   whole-fits = subst (λ (z : ℤ). SFits w32 z) (sym whole_is) (fits32 (whole_of x) within)
 
-  pub result-is : to_z w32 (of_z w32 (to_z w64 (of_z w64 less))) ≡ millimetres (roundedOf x)
+  pub result-is : to_z w32 (of_z w32 (to_z w64 (of_z w64 less))) ≡ millimetres (rounded_of x)
   result-is = to_z-of_z w32 (to_z w64 (of_z w64 less)) whole-fits ∙ whole_is ∙ sym (ap millimetres (in-range x l h))

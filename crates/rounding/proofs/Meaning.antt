@@ -1,4 +1,4 @@
--- What `roundedOf` means: its number is the nearest to the float's exact value.
+-- What `rounded_of` means: its number is the nearest to the float's exact value.
 --     whole-nearest   `whole_of` is the nearest whole number of a finite float
 --     says, told      so each answer says what it means
 --     whole_back      a number of the range, as its answer
@@ -10,7 +10,7 @@ use lib.Ieee.Fits.{down_pos}
 use lib.Ieee.Nearest.{closest}
 use Rattle.rounding.specs.declared.Rounded.{Rounded}
 use Rattle.rounding.specs.declared.Rounded.TheVariants.{Whole, NotFinite, OutOfRange}
-use Rattle.rounding.specs.Rounding.{finite, scaled, unit, Nearest, whole_of, in_range, roundedOf, isWhole, millimetres, Says}
+use Rattle.rounding.specs.Rounding.{finite, scaled, unit, Nearest, whole_of, in_range, rounded_of, is_whole, millimetres, Says}
 use Rattle.rounding.proofs.Near.{Near, near-closest}
 
 -- ---- the distance of two natural numbers
@@ -71,7 +71,7 @@ whole-nearest (fin s m e) t = go s
     go true = mirror (pos (m * up e)) (pos (closest (m * up e) (down e))) (down e) plain
     go false = plain
 
-pub says : (x : Float) → Says x (roundedOf x)
+pub says : (x : Float) → Says x (rounded_of x)
 says nan = tt
 says (inf s) = tt
 says (fin s m e) = go (in_range (whole_of (fin s m e))) refl
@@ -81,11 +81,11 @@ says (fin s m e) = go (in_range (whole_of (fin s m e))) refl
     go false t = (tt, whole-nearest (fin s m e) tt, subst (λ (b : Bool). T (not b)) (sym t) tt)
 
 -- The promise of `nearest`, by its answer.
-pub told : (x : Float) {r : Rounded} → r ≡ roundedOf x → (r ≡ roundedOf x) × Says x r
+pub told : (x : Float) {r : Rounded} → r ≡ rounded_of x → (r ≡ rounded_of x) × Says x r
 told x e = (e, subst (Says x) (sym e) (says x))
 
 -- A number of the range, as its answer.
-pub whole_back : (y : Rounded) → isWhole y ≡ true → Whole (millimetres y) ≡ y
+pub whole_back : (y : Rounded) → is_whole y ≡ true → Whole (millimetres y) ≡ y
 whole_back (Whole r) e = refl
 whole_back NotFinite e = absurd (true≢false (sym e))
 whole_back OutOfRange e = absurd (true≢false (sym e))

@@ -10,7 +10,7 @@ use lib.Ieee.Exact.{HasValue, round_exact}
 use Rattle.rounding.specs.declared.Number.{Number}
 use Rattle.rounding.specs.declared.Number.TheVariants.{Float, Double, Int}
 use Rattle.rounding.specs.declared.Vertex.{Vertex}
-use Rattle.rounding.specs.Widening.{Equals, SameValue, widenedOf}
+use Rattle.rounding.specs.Widening.{Equals, SameValue, widened_of}
 
 -- ---- an integer of fewer than 54 digits is a float exactly
 exact : (s : Bool) (n : ℕ) → n < 2 ^ 53 → HasValue (round binary64 s n 1) s n 1
@@ -42,7 +42,7 @@ int-value (negsuc n) h = of-neg (round binary64 true (suc n) 1) n (exact true (s
 -- ---- what `widen` answers in each case
 -- what is promised of the answer
 abbrev Widened : F → Number → Type 0
-Widened r n = (r ≡ widenedOf n) × SameValue n r
+Widened r n = (r ≡ widened_of n) × SameValue n r
 
 module _ {n : Number} {r : F} where
   pub as-float : (x : F) → n ≡ Float x → r ≡ x → Widened r n

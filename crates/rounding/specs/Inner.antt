@@ -4,7 +4,7 @@ use Rattle.std.specs.Float.{nan, inf, fin}
 use Rattle.rounding.specs.declared.Rounded.{Rounded}
 use Rattle.rounding.specs.declared.Rounded.TheVariants.{NotFinite, OutOfRange}
 
-abbrev pub refusedAs : Float → Rounded
-refusedAs nan = NotFinite
-refusedAs (inf s) = NotFinite
-refusedAs (fin s m e) = OutOfRange
+abbrev pub refused_as : Float → Rounded
+refused_as nan = NotFinite
+refused_as (inf s) = NotFinite
+refused_as (fin s m e) = OutOfRange

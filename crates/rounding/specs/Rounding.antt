@@ -15,14 +15,14 @@ finite (inf s) = false
 finite (fin s m e) = true
 
 -- The number with this size, negative where s is true.
-abbrev pub signedBy : (s : Bool) → ℕ → ℤ
-signedBy true n = neg_ℤ (pos n)
-signedBy false n = pos n
+abbrev pub signed_by : (s : Bool) → ℕ → ℤ
+signed_by true n = neg_ℤ (pos n)
+signed_by false n = pos n
 
 abbrev pub scaled : Float → ℤ
 scaled nan = pos 0
 scaled (inf s) = pos 0
-scaled (fin s m e) = signedBy s (m * up e)
+scaled (fin s m e) = signed_by s (m * up e)
 
 abbrev pub unit : Float → ℕ
 unit nan = 1
@@ -39,23 +39,23 @@ pub record Nearest (x : ℤ) (d : ℕ) (r : ℤ) : Type 0 where
 abbrev pub whole_of : Float → ℤ
 whole_of nan = pos 0
 whole_of (inf s) = pos 0
-whole_of (fin s m e) = signedBy s (closest (m * up e) (down e))
+whole_of (fin s m e) = signed_by s (closest (m * up e) (down e))
 
 -- From -8,192 to 8,191, as a coordinate of a frame file.
 abbrev pub in_range : ℤ → Bool
 in_range r = int_le (negsuc 8191) r && int_le r (pos 8191)
 
 -- What a float is rounded to, "infinite or not a number" and "outside" told apart.
-abbrev pub roundedOf : Float → Rounded
-roundedOf nan = NotFinite
-roundedOf (inf s) = NotFinite
-roundedOf (fin s m e) = cond (in_range (whole_of (fin s m e))) (Whole (whole_of (fin s m e))) OutOfRange
+abbrev pub rounded_of : Float → Rounded
+rounded_of nan = NotFinite
+rounded_of (inf s) = NotFinite
+rounded_of (fin s m e) = cond (in_range (whole_of (fin s m e))) (Whole (whole_of (fin s m e))) OutOfRange
 
 -- Is there a whole number?
-abbrev pub isWhole : Rounded → Bool
-isWhole (Whole r) = true
-isWhole NotFinite = false
-isWhole OutOfRange = false
+abbrev pub is_whole : Rounded → Bool
+is_whole (Whole r) = true
+is_whole NotFinite = false
+is_whole OutOfRange = false
 
 -- It, and 0 where there is none.
 abbrev pub millimetres : Rounded → ℤ

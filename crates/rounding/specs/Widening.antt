@@ -19,11 +19,11 @@ SameValue (Float x) r = r ≡ x
 SameValue (Double x) r = r ≡ x
 SameValue (Int k) r = Equals r k
 
-abbrev pub widenedOf : Number → F
-widenedOf (Float x) = x
-widenedOf (Double x) = x
-widenedOf (Int k) = of_int binary64 k
+abbrev pub widened_of : Number → F
+widened_of (Float x) = x
+widened_of (Double x) = x
+widened_of (Int k) = of_int binary64 k
 
 -- A vertex is three doubles.
-abbrev pub widenedVertex : (x y z : Number) → Vertex
-widenedVertex x y z = record { x = widenedOf x; y = widenedOf y; z = widenedOf z }
+abbrev pub widened_vertex : (x y z : Number) → Vertex
+widened_vertex x y z = record { x = widened_of x; y = widened_of y; z = widened_of z }

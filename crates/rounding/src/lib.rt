@@ -3,9 +3,9 @@
 ghost use Rattle.std.specs.Prelude.{◌≡◌, true};
 ghost use Rattle.std.specs.Float.{binary64};
 ghost use Rattle.std.specs.Float.Ieee.{of_int};
-ghost use Rattle.rounding.specs.Rounding.{roundedOf, Says, isWhole, millimetres};
-ghost use Rattle.rounding.specs.Widening.{Equals, SameValue, widenedOf, widenedVertex};
-ghost use Rattle.rounding.specs.Inner.{refusedAs};
+ghost use Rattle.rounding.specs.Rounding.{rounded_of, Says, is_whole, millimetres};
+ghost use Rattle.rounding.specs.Widening.{Equals, SameValue, widened_of, widened_vertex};
+ghost use Rattle.rounding.specs.Inner.{refused_as};
 
 // A number of a file, of the type that its property says.
 #[derive(Drop)]
@@ -40,7 +40,7 @@ fn from_int(k: i32) -> f64
 
 // The same number as an `f64`. An infinity stays one, and what is not a number stays so.
 pub fn widen(n: Number) -> f64
-    ensures { (result ≡ widenedOf n) × SameValue n result }
+    ensures { (result ≡ widened_of n) × SameValue n result }
 {
     match n {
         Number::Float(x) => std::num::f32_to_f64_with_nan(x),
@@ -51,7 +51,7 @@ pub fn widen(n: Number) -> f64
 
 // The vertex of three numbers.
 pub fn widened(x: Number, y: Number, z: Number) -> Vertex
-    ensures { (result ≡ widenedVertex x y z) × SameValue x result.x × SameValue y result.y × SameValue z result.z }
+    ensures { (result ≡ widened_vertex x y z) × SameValue x result.x × SameValue y result.y × SameValue z result.z }
 {
     let wide_x = widen(x);
     let wide_y = widen(y);
@@ -65,7 +65,7 @@ pub fn widened(x: Number, y: Number, z: Number) -> Vertex
 
 // Why a number that rounds to none of the range is refused.
 fn refused(x: f64) -> Rounded
-    ensures { result ≡ refusedAs x }
+    ensures { result ≡ refused_as x }
 {
     let infinite = 1.0 / 0.0;
     if x < infinite {
@@ -82,8 +82,8 @@ fn refused(x: f64) -> Rounded
 // The nearest whole number, a half to the even one, of a number that rounds to one of the range. The sum lies from 2^52 to 2^53, where
 // an `f64` counts by ones: the addition itself rounds it, a half to the even number. 3 × 2^51 is even, so that what is left is too.
 pub fn whole(x: f64) -> i32
-    requires { isWhole (roundedOf x) ≡ true }
-    ensures { result ≡ millimetres (roundedOf x) }
+    requires { is_whole (rounded_of x) ≡ true }
+    ensures { result ≡ millimetres (rounded_of x) }
 {
     let sum = x + 6755399441055744.0;
     (sum as i64 - 6755399441055744) as i32
@@ -91,7 +91,7 @@ pub fn whole(x: f64) -> i32
 
 // The nearest whole number, a half to the even one, where it is one from -8,192 to 8,191.
 pub fn nearest(x: f64) -> Rounded
-    ensures { (result ≡ roundedOf x) × Says x result }
+    ensures { (result ≡ rounded_of x) × Says x result }
 {
     if x >= -8192.5 {
         if x < 8191.5 {
@@ -106,7 +106,7 @@ pub fn nearest(x: f64) -> Rounded
 
 // Is there such a number?
 pub fn is_whole(x: f64) -> bool
-    ensures { result ≡ isWhole (roundedOf x) }
+    ensures { result ≡ is_whole (rounded_of x) }
 {
     match nearest(x) {
         Rounded::Whole(_) => true,

@@ -1,16 +1,16 @@
 // The route test: is a route free of the filled cells of a map?
 ghost use Rattle.std.specs.Prelude.{◌≡◌, ◌≤◌, ◌<◌, ◌^◌, length};
 ghost use Rattle.refusal.specs.Limit.{gives};
-ghost use Rattle.refusal.specs.Questions.{answered, ofEach};
-ghost use Rattle.refusal.specs.Inner.{saidVerdict};
+ghost use Rattle.refusal.specs.Questions.{answered, of_each};
+ghost use Rattle.refusal.specs.Inner.{said_verdict};
 ghost use Rattle.refusal.specs.Inner.{asked};
-ghost use Rattle.grid.specs.Grid.{cellCount};
+ghost use Rattle.grid.specs.Grid.{cell_count};
 ghost use Rattle.grid.specs.Usable.{UsableGrid};
-ghost use Rattle.map.specs.Map.{mapLength, isFilled};
-ghost use Rattle.demand.specs.Route.{pointCount, points_of, pointAt, tested, pointQuestion, routeAnswer};
+ghost use Rattle.map.specs.Map.{map_length, is_filled};
+ghost use Rattle.demand.specs.Route.{point_count, points_of, point_at, tested, point_question, route_answer};
 ghost use Rattle.demand.specs.Demand.{DemandOf, FirstOf};
-ghost use Rattle.route.specs.Said.{saidRoute};
-ghost use Rattle.demand.specs.Inner.{ReadyRoute, lastQuestions};
+ghost use Rattle.route.specs.Said.{said_route};
+ghost use Rattle.demand.specs.Inner.{ReadyRoute, last_questions};
 
 use frame::Checked;
 use geometry::Point;
@@ -29,7 +29,7 @@ pub enum RouteAnswer {
 
 // Puts questions 1 to 10, then tests the legs of the route in turn. The points are x, y and z in turn.
 pub fn test_route(file: &[u8], map: &[u8], numbers: &[i16]) -> RouteAnswer
-    ensures { (saidRoute result ≡ routeAnswer file.now map.now numbers.now) × DemandOf file.now map.now numbers.now (saidRoute result) × FirstOf file.now map.now numbers.now (saidRoute result) }
+    ensures { (said_route result ≡ route_answer file.now map.now numbers.now) × DemandOf file.now map.now numbers.now (said_route result) × FirstOf file.now map.now numbers.now (said_route result) }
 {
     match frame::check(file) {
         Checked::Refused(limit) => RouteAnswer::Refused(limit),
@@ -40,7 +40,7 @@ pub fn test_route(file: &[u8], map: &[u8], numbers: &[i16]) -> RouteAnswer
 // Questions 8 to 10, then the legs.
 fn test_accepted(g: Grid, map: &[u8], numbers: &[i16]) -> RouteAnswer
     requires { UsableGrid (2 ^ 13) (2 ^ 8) g }
-    ensures { saidRoute result ≡ answered (lastQuestions g (length map.now) numbers.now) (tested (isFilled map.now) g (points_of numbers.now)) }
+    ensures { said_route result ≡ answered (last_questions g (length map.now) numbers.now) (tested (is_filled map.now) g (points_of numbers.now)) }
 {
     match check_last(g, map.len(), numbers) {
         Verdict::Broken(limit) => RouteAnswer::Refused(limit),
@@ -51,7 +51,7 @@ fn test_accepted(g: Grid, map: &[u8], numbers: &[i16]) -> RouteAnswer
 // Questions 8 to 10, of a map with `len` bytes.
 fn check_last(g: Grid, len: usize, numbers: &[i16]) -> Verdict
     requires { UsableGrid (2 ^ 13) (2 ^ 8) g }
-    ensures { saidVerdict result ≡ asked (lastQuestions g len numbers.now) }
+    ensures { said_verdict result ≡ asked (last_questions g len numbers.now) }
 {
     let n = grid::cell_count(g);
     if len < map::map_length(n) {
@@ -72,8 +72,8 @@ fn check_last(g: Grid, len: usize, numbers: &[i16]) -> Verdict
 
 // Question 10, of the first `count` points.
 fn check_points(g: Grid, numbers: &[i16], count: usize) -> Verdict
-    requires { UsableGrid (2 ^ 13) (2 ^ 8) g × (count ≤ pointCount numbers.now) }
-    ensures { saidVerdict result ≡ asked (ofEach (pointQuestion g (points_of numbers.now)) count) }
+    requires { UsableGrid (2 ^ 13) (2 ^ 8) g × (count ≤ point_count numbers.now) }
+    ensures { said_verdict result ≡ asked (of_each (point_question g (points_of numbers.now)) count) }
 {
     let mut i = 0;
     while i < count {
@@ -88,8 +88,8 @@ fn check_points(g: Grid, numbers: &[i16], count: usize) -> Verdict
 
 // Point m of the route.
 fn point_at(numbers: &[i16], m: usize) -> Point
-    requires { m < pointCount numbers.now }
-    ensures { result ≡ pointAt (points_of numbers.now) m }
+    requires { m < point_count numbers.now }
+    ensures { result ≡ point_at (points_of numbers.now) m }
 {
     let x = integers::read_i16(numbers, 3 * m);
     let y = integers::read_i16(numbers, 3 * m + 1);
@@ -99,8 +99,8 @@ fn point_at(numbers: &[i16], m: usize) -> Point
 
 // Tests the legs in turn, up to the first that touches a filled cell.
 fn test_legs(g: Grid, map: &[u8], numbers: &[i16]) -> RouteAnswer
-    requires { UsableGrid (2 ^ 13) (2 ^ 8) g × (mapLength (cellCount g) ≤ length map.now) × ReadyRoute g numbers.now }
-    ensures { saidRoute result ≡ gives (tested (isFilled map.now) g (points_of numbers.now)) }
+    requires { UsableGrid (2 ^ 13) (2 ^ 8) g × (map_length (cell_count g) ≤ length map.now) × ReadyRoute g numbers.now }
+    ensures { said_route result ≡ gives (tested (is_filled map.now) g (points_of numbers.now)) }
 {
     let legs = numbers.len() / 3 - 1;
     let mut m = 0;

@@ -17,7 +17,7 @@ use Rattle.integers.proofs.Expr.{var, num, neg, ◌⊕◌, ◌⊖◌, ◌⊗◌}
 use Rattle.integers.proofs.Ring.{ring}
 use Rattle.grid.specs.declared.CellRange.{CellRange}
 use Rattle.grid.specs.Range.{in_range}
-use Rattle.runs.specs.Run.{formAt, passes, FormHolds, FormFails, Splits, Narrows, inSlab}
+use Rattle.runs.specs.Run.{form_at, passes, FormHolds, FormFails, Splits, Narrows, in_slab}
 
 le_of_not_lt : {a b : ℕ} → (b < a → ⊥) → a ≤ b
 le_of_not_lt f = le_of_suc-le-suc (lt_of_not-le f)
@@ -54,21 +54,21 @@ module _ (first end r : ℕ) (step at : ℤ) where
   by-rising h =
       narrows run (record { first = r; end = end }) (passes step at) h.to h.from (omega arith)
       (λ k l u. let p = h.above k l u in omega zarith)
-      (λ k l u e. (le_of_not_lt (λ b. clash_ℤ (h.below k l b) (le-true (pos 0) (formAt step at k) e)), u))
+      (λ k l u e. (le_of_not_lt (λ b. clash_ℤ (h.below k l b) (le-true (pos 0) (form_at step at k) e)), u))
 
   pub by-falling : Splits first end (FormHolds step at) (FormFails step at) r → Narrows run (passes step at) (record { first = first; end = r })
   by-falling h =
       narrows run (record { first = first; end = r }) (passes step at) h.from (omega arith) h.to
       (λ k l u. let p = h.below k l u in omega zarith)
-      (λ k l u e. (l, lt_of_not-le (λ b. clash_ℤ (h.above k b u) (le-true (pos 0) (formAt step at k) e))))
+      (λ k l u e. (l, lt_of_not-le (λ b. clash_ℤ (h.above k b u) (le-true (pos 0) (form_at step at k) e))))
 
 -- ---- by a slab
 module _ (step at reach : ℤ) where
   -- the forms that the three searches step, at cell k
-  mirrored : (k : ℕ) → formAt (neg_ℤ step) (neg_ℤ at -ℤ pos 1) k ≡ pos 0 -ℤ formAt step at k -ℤ pos 1
+  mirrored : (k : ℕ) → form_at (neg_ℤ step) (neg_ℤ at -ℤ pos 1) k ≡ pos 0 -ℤ form_at step at k -ℤ pos 1
   mirrored k = ring (step ∷ at ∷ pos k ∷ []) (neg (var 0) ⊗ var 2 ⊕ (neg (var 1) ⊖ num 1)) (num 0 ⊖ (var 0 ⊗ var 2 ⊕ var 1) ⊖ num 1) tt
 
-  shifted : (k : ℕ) → formAt step (at -ℤ reach -ℤ pos 1) k ≡ formAt step at k -ℤ reach -ℤ pos 1
+  shifted : (k : ℕ) → form_at step (at -ℤ reach -ℤ pos 1) k ≡ form_at step at k -ℤ reach -ℤ pos 1
   shifted k = ring (step ∷ at ∷ reach ∷ pos k ∷ []) (var 0 ⊗ var 3 ⊕ (var 1 ⊖ var 2 ⊖ num 1)) (var 0 ⊗ var 3 ⊕ var 1 ⊖ var 2 ⊖ num 1) tt
 
   below-zero : {x y : ℤ} → y ≡ pos 0 -ℤ x -ℤ pos 1 → pos 0 ≤ℤ y → x <ℤ pos 0
@@ -87,19 +87,19 @@ module _ (step at reach : ℤ) where
       → Splits hint run.end (FormFails step at) (FormHolds step at) up
       → Splits run.first up (FormHolds (neg_ℤ step) (neg_ℤ at -ℤ pos 1)) (FormFails (neg_ℤ step) (neg_ℤ at -ℤ pos 1)) first
       → Splits first run.end (FormFails step (at -ℤ reach -ℤ pos 1)) (FormHolds step (at -ℤ reach -ℤ pos 1)) end
-      → Narrows run (inSlab step at reach) (record { first = first; end = end })
+      → Narrows run (in_slab step at reach) (record { first = first; end = end })
   in-slab {run} {hint} {up} {first} {end} l h a b c =
-      narrows run (record { first = first; end = end }) (inSlab step at reach) c.from b.from c.to
-      (λ k lo hi. (and-eq-true_iff (passes step at k) (le_z (formAt step at k) reach)).1
-      (true-le (pos 0) (formAt step at k) (low k lo (omega (arith, c.to))), true-le (formAt step at k) reach (not-past (shifted k) (c.below k lo hi))))
-      (λ k lo hi e. let (p, q) = (and-eq-true_iff (passes step at k) (le_z (formAt step at k) reach)).0 e in
-      let f = le_of_not_lt (λ n. clash_ℤ (below-zero (mirrored k) (b.below k lo n)) (le-true (pos 0) (formAt step at k) p)) in
-      (f, lt_of_not-le (λ n. clash_ℤ (past (shifted k) (c.above k n hi)) (le-true (formAt step at k) reach q))))
+      narrows run (record { first = first; end = end }) (in_slab step at reach) c.from b.from c.to
+      (λ k lo hi. (and-eq-true_iff (passes step at k) (le_z (form_at step at k) reach)).1
+      (true-le (pos 0) (form_at step at k) (low k lo (omega (arith, c.to))), true-le (form_at step at k) reach (not-past (shifted k) (c.below k lo hi))))
+      (λ k lo hi e. let (p, q) = (and-eq-true_iff (passes step at k) (le_z (form_at step at k) reach)).0 e in
+      let f = le_of_not_lt (λ n. clash_ℤ (below-zero (mirrored k) (b.below k lo n)) (le-true (pos 0) (form_at step at k) p)) in
+      (f, lt_of_not-le (λ n. clash_ℤ (past (shifted k) (c.above k n hi)) (le-true (form_at step at k) reach q))))
     where
-      low : (k : ℕ) → first ≤ k → k < run.end → pos 0 ≤ℤ formAt step at k
+      low : (k : ℕ) → first ≤ k → k < run.end → pos 0 ≤ℤ form_at step at k
       low k lo hi = go (dec_lt k up)
         where
-          go : Dec (k < up) → pos 0 ≤ℤ formAt step at k
+          go : Dec (k < up) → pos 0 ≤ℤ form_at step at k
           go (yes d) = from_zero (mirrored k) (b.above k lo d)
           go (no d) = a.above k (omega arith) hi
 

@@ -18,24 +18,24 @@ use Rattle.integers.proofs.Ring.{ring}
 use Rattle.integers.proofs.Certificates.{le, ◌⊠◌, by_le}
 use Rattle.integers.proofs.Bounds.{within-add, within-mul}
 use Rattle.integers.proofs.Machine.{Asks, mach, asks, run}
-use Rattle.runs.specs.Run.{slopeMax, formAt, constantMax, Stepping, Splits}
+use Rattle.runs.specs.Run.{slope_max, form_at, constant_max, Stepping, Splits}
 
-abbrev pub formMax : ℕ
-formMax = slopeMax * 64 + constantMax
+abbrev pub form_max : ℕ
+form_max = slope_max * 64 + constant_max
 
 module _ (step at : ℤ) where
-  pub next : (k : ℕ) → formAt step at k +ℤ step ≡ formAt step at (k + 1)
+  pub next : (k : ℕ) → form_at step at k +ℤ step ≡ form_at step at (k + 1)
   next k = ring (step ∷ at ∷ pos k ∷ []) (var 0 ⊗ var 2 ⊕ var 1 ⊕ var 0) (var 0 ⊗ (var 2 ⊕ num 1) ⊕ var 1) tt
 
-  pub rises : pos 0 ≤ℤ step → {k l : ℕ} → k ≤ l → formAt step at k ≤ℤ formAt step at l
+  pub rises : pos 0 ≤ℤ step → {k l : ℕ} → k ≤ l → form_at step at k ≤ℤ form_at step at l
   rises h {k} {l} o =
       by_le (step ∷ at ∷ pos k ∷ pos l ∷ []) (var 0 ⊗ var 2 ⊕ var 1) (var 0 ⊗ var 3 ⊕ var 1) (le (num 0) (var 0) h ⊠ le (var 2) (var 3) (pos-le o)) tt
 
-  pub falls : step ≤ℤ pos 0 → {k l : ℕ} → k ≤ l → formAt step at l ≤ℤ formAt step at k
+  pub falls : step ≤ℤ pos 0 → {k l : ℕ} → k ≤ l → form_at step at l ≤ℤ form_at step at k
   falls h {k} {l} o =
       by_le (step ∷ at ∷ pos k ∷ pos l ∷ []) (var 0 ⊗ var 3 ⊕ var 1) (var 0 ⊗ var 2 ⊕ var 1) (le (var 0) (num 0) h ⊠ le (var 2) (var 3) (pos-le o)) tt
 
-  pub form-within : {first end : ℕ} → Stepping first end step at → {k : ℕ} → k ≤ 64 → Within formMax (formAt step at k)
+  pub form-within : {first end : ℕ} → Stepping first end step at → {k : ℕ} → k ≤ 64 → Within form_max (form_at step at k)
   form-within s h = within-add (within-mul s.slope (record { within = h })) s.constant
 
 -- one more cell above, or below
@@ -55,8 +55,8 @@ module _ (P : ℕ → Type 0) {k : ℕ} (here : P k) where
       go (no d) = let e : k ≡ l = omega arith in subst P e here
 
 -- the value before
-pub previous : (step at : ℤ) {k : ℕ} → 0 < k → formAt step at (k - 1) +ℤ step ≡ formAt step at k
-previous step at {k} h = next step at (k - 1) ∙ ap (formAt step at) same
+pub previous : (step at : ℤ) {k : ℕ} → 0 < k → form_at step at (k - 1) +ℤ step ≡ form_at step at k
+previous step at {k} h = next step at (k - 1) ∙ ap (form_at step at) same
   where
     same : k - 1 + 1 ≡ k
     same = omega arith
@@ -82,29 +82,29 @@ pub record Given (first end : ℕ) (step at : ℤ) : Type 0 where
   pub at-fits : SFits w64 at
 
 -- the first value, of the form's numbers and a cell's number; and the numbers from which the next value is made
-abbrev pub startForm : Expr
-startForm = var 0 ⊗ var 2 ⊕ var 1
+abbrev pub start_form : Expr
+start_form = var 0 ⊗ var 2 ⊕ var 1
 
-abbrev startMax : List ℕ
-startMax = slopeMax ∷ constantMax ∷ 64 ∷ []
+abbrev start_max : List ℕ
+start_max = slope_max ∷ constant_max ∷ 64 ∷ []
 
-abbrev pub nextMax : List ℕ
-nextMax = formMax ∷ slopeMax ∷ []
+abbrev pub next_max : List ℕ
+next_max = form_max ∷ slope_max ∷ []
 
 module _ {first end : ℕ} {step at : ℤ} (g : Given first end step at) where
-  form-read : (k : ℕ) → formAt (read step) (read at) k ≡ formAt step at k
-  form-read k = λ i. formAt (to_z-of_z g.step_fits i) (to_z-of_z g.at-fits i) k
+  form-read : (k : ℕ) → form_at (read step) (read at) k ≡ form_at step at k
+  form-read k = λ i. form_at (to_z-of_z g.step_fits i) (to_z-of_z g.at-fits i) k
 
-  start-in : {z : ℤ} {k : ℕ} → z ≡ pos k → k ≤ 64 → Withins startMax (step ∷ at ∷ z ∷ [])
+  start-in : {z : ℤ} {k : ℕ} → z ≡ pos k → k ≤ 64 → Withins start_max (step ∷ at ∷ z ∷ [])
   start-in e h = (g.form.slope, (g.form.constant, (rw e (record { within = h }), tt)))
 
-  pub start-asks : {z : ℤ} {k : ℕ} → z ≡ pos k → k ≤ 64 → Asks (step ∷ at ∷ z ∷ []) startForm
-  start-asks {z} e h = asks (step ∷ at ∷ z ∷ []) startForm startMax tt (start-in e h)
+  pub start-asks : {z : ℤ} {k : ℕ} → z ≡ pos k → k ≤ 64 → Asks (step ∷ at ∷ z ∷ []) start_form
+  start-asks {z} e h = asks (step ∷ at ∷ z ∷ []) start_form start_max tt (start-in e h)
 
-  pub start_is : {z : ℤ} {k : ℕ} → z ≡ pos k → k ≤ 64 → mach (step ∷ at ∷ z ∷ []) startForm ≡ formAt (read step) (read at) k
-  start_is {z} {k} e h = run (step ∷ at ∷ z ∷ []) startForm startMax tt (start-in e h) ∙ ap (λ (y : ℤ). step *ℤ y +ℤ at) e ∙ sym (form-read k)
+  pub start_is : {z : ℤ} {k : ℕ} → z ≡ pos k → k ≤ 64 → mach (step ∷ at ∷ z ∷ []) start_form ≡ form_at (read step) (read at) k
+  start_is {z} {k} e h = run (step ∷ at ∷ z ∷ []) start_form start_max tt (start-in e h) ∙ ap (λ (y : ℤ). step *ℤ y +ℤ at) e ∙ sym (form-read k)
 
-  pub next-in : {x : ℤ} {k : ℕ} → x ≡ formAt (read step) (read at) k → k ≤ 64 → Withins nextMax (x ∷ step ∷ [])
+  pub next-in : {x : ℤ} {k : ℕ} → x ≡ form_at (read step) (read at) k → k ≤ 64 → Withins next_max (x ∷ step ∷ [])
   next-in {k = k} e h = (rw (e, form-read k) (form-within step at g.form h), (g.form.slope, tt))
 
   -- what the search found of the numbers read back, said of the numbers

@@ -6,30 +6,30 @@ use Rattle.grid.specs.declared.CellRange.{CellRange}
 use Rattle.grid.specs.Range.{in_range}
 
 -- The form at cell k, and its test.
-abbrev pub formAt : (step at : ℤ) → ℕ → ℤ
-formAt step at k = step *ℤ pos k +ℤ at
+abbrev pub form_at : (step at : ℤ) → ℕ → ℤ
+form_at step at k = step *ℤ pos k +ℤ at
 
 abbrev pub passes : (step at : ℤ) → ℕ → Bool
-passes step at k = le_z (pos 0) (formAt step at k)
+passes step at k = le_z (pos 0) (form_at step at k)
 
 abbrev pub FormHolds : (step at : ℤ) → ℕ → Type 0
-FormHolds step at k = pos 0 ≤ℤ formAt step at k
+FormHolds step at k = pos 0 ≤ℤ form_at step at k
 
 abbrev pub FormFails : (step at : ℤ) → ℕ → Type 0
-FormFails step at k = formAt step at k <ℤ pos 0
+FormFails step at k = form_at step at k <ℤ pos 0
 
 -- How large a form's coefficient and its constant may be, so that no value of it leaves 64 bits.
-abbrev pub slopeMax : ℕ
-slopeMax = 2 ^ 54
+abbrev pub slope_max : ℕ
+slope_max = 2 ^ 54
 
-abbrev pub constantMax : ℕ
-constantMax = 2 ^ 62 + 2 ^ 61 + 2 ^ 58
+abbrev pub constant_max : ℕ
+constant_max = 2 ^ 62 + 2 ^ 61 + 2 ^ 58
 
 pub record Stepping (first end : ℕ) (step at : ℤ) : Type 0 where
   pub ordered : first ≤ end
   pub most : end ≤ 64
-  pub slope : Within slopeMax step
-  pub constant : Within constantMax at
+  pub slope : Within slope_max step
+  pub constant : Within constant_max at
 
 -- r splits the run: one property below it, and another from it on.
 pub record Splits (first end : ℕ) (low high : ℕ → Type 0) (r : ℕ) : Type 0 where
@@ -49,21 +49,21 @@ abbrev pub SteppingIn : CellRange → (step at : ℤ) → Type 0
 SteppingIn run = Stepping run.first run.end
 
 -- Cell k is in the slab: the form is from 0 to `reach` there, both included.
-abbrev pub inSlab : (step at reach : ℤ) → ℕ → Bool
-inSlab step at reach k = passes step at k && le_z (formAt step at k) reach
+abbrev pub in_slab : (step at reach : ℤ) → ℕ → Bool
+in_slab step at reach k = passes step at k && le_z (form_at step at k) reach
 
 -- How large a slab's constant and its reach may be.
-abbrev pub slabMax : ℕ
-slabMax = 2 ^ 62 + 2 ^ 61
+abbrev pub slab_max : ℕ
+slab_max = 2 ^ 62 + 2 ^ 61
 
-abbrev pub reachMax : ℕ
-reachMax = 2 ^ 57
+abbrev pub reach_max : ℕ
+reach_max = 2 ^ 57
 
 pub record SlabReady (run : CellRange) (hint : ℕ) (step at reach : ℤ) : Type 0 where
   pub low : run.first ≤ hint
   pub high : hint ≤ run.end
   pub most : run.end ≤ 64
   pub rises : pos 0 ≤ℤ step
-  pub slope : Within slopeMax step
-  pub constant : Within slabMax at
-  pub thick : Within reachMax reach
+  pub slope : Within slope_max step
+  pub constant : Within slab_max at
+  pub thick : Within reach_max reach

@@ -1,6 +1,6 @@
 // Runs of cells in a row or a column, cut by linear forms of the cell's number.
 ghost use Rattle.std.specs.Prelude.{pos, ◌≤ℤ◌};
-ghost use Rattle.runs.specs.Run.{FormHolds, FormFails, Stepping, Splits, passes, SteppingIn, Narrows, inSlab, SlabReady};
+ghost use Rattle.runs.specs.Run.{FormHolds, FormFails, Stepping, Splits, passes, SteppingIn, Narrows, in_slab, SlabReady};
 
 use grid::CellRange;
 
@@ -62,7 +62,7 @@ pub fn by_form(run: CellRange, step: i64, at: i64) -> CellRange
 // the run or its end: no search leaves the run, so that a hint far off costs no more than the run is long.
 pub fn by_slab(run: CellRange, hint: usize, step: i64, at: i64, reach: i64) -> CellRange
     requires { SlabReady run hint step at reach }
-    ensures { Narrows run (inSlab step at reach) result }
+    ensures { Narrows run (in_slab step at reach) result }
 {
     let up = raised(hint, run.end, step, at);
     let first = lowered(run.first, up, -step, -at - 1);

@@ -16,78 +16,78 @@ use lib.IntN.{ℤ, pos}
 use lib.ListN.{length, take, drop}
 use lib.Seq.{take_at}
 use Rattle.layout.specs.Layout.{version1, field, plain, signed}
-use Rattle.layout_write.specs.Writing.{canHold}
-use Rattle.writable.specs.Fits.{headerFits, triangleFits, triangleNumbers, all_below}
+use Rattle.layout_write.specs.Writing.{can_hold}
+use Rattle.writable.specs.Fits.{header_fits, triangle_fits, triangle_numbers, all_below}
 use Rattle.writable.proofs.All.{all_of}
 use Rattle.frame_write.specs.declared.GridValues.{GridValues}
-use Rattle.frame_write.specs.Write.{headerToWrite, triangleCount, concatBelow}
+use Rattle.frame_write.specs.Write.{header_to_write, triangle_count, concat_below}
 use Rattle.frame_write.proofs.Pieces.{length-pieces, piece-at}
 use Rattle.rounding.specs.declared.Rounded.TheVariants.{Whole, OutOfRange}
 use Rattle.rounding.specs.declared.Vertex.{Vertex}
-use Rattle.rounding.specs.Rounding.{whole_of, in_range, roundedOf, millimetres}
+use Rattle.rounding.specs.Rounding.{whole_of, in_range, rounded_of, millimetres}
 use Rattle.ply_header.specs.declared.Form.{Form}
 use Rattle.ply.specs.declared.Corner.{Corner}
-use Rattle.ply.specs.Body.{facePlace, cornerOf, triangleOf, triangleAt}
-use Rattle.scan.specs.Scan.{triangles, gridFits}
+use Rattle.ply.specs.Body.{face_place, corner_of, triangle_of, triangle_at}
+use Rattle.scan.specs.Scan.{triangles, grid_fits}
 
 -- ---- how many, and which
 module _ (s : List ℕ) (f : Form) where
   abbrev numbers : ℕ → List ℤ
-  numbers k = triangleAt s f (facePlace s f k)
+  numbers k = triangle_at s f (face_place s f k)
 
   ten : (k : ℕ) → length (numbers k) ≡ 10
-  unfolding triangleAt
+  unfolding triangle_at
   ten k = refl
 
   long : length (triangles s f) ≡ 10 * f.faces
   unfolding triangles
   long = length-pieces numbers 10 ten f.faces
 
-  pub count-is : triangleCount (triangles s f) ≡ f.faces
+  pub count-is : triangle_count (triangles s f) ≡ f.faces
   count-is = omega (arith, long)
 
   pub whole_is : length (triangles s f) % 10 ≡ 0
   whole_is = omega (arith, long)
 
-  pub numbers-are : (i : ℕ) → i < f.faces → triangleNumbers (triangles s f) i ≡ numbers i
+  pub numbers-are : (i : ℕ) → i < f.faces → triangle_numbers (triangles s f) i ≡ numbers i
   unfolding triangles
   numbers-are i h =
       let p = piece-at numbers 10 ten f.faces i h in
-      ap (λ (a : ℕ). take 10 (drop a (concatBelow numbers f.faces))) (mul_comm i 10) ∙ ap (take 10) p.is ∙ take_at (numbers i) p.rest 10 (ten i)
+      ap (λ (a : ℕ). take 10 (drop a (concat_below numbers f.faces))) (mul_comm i 10) ∙ ap (take 10) p.is ∙ take_at (numbers i) p.rest 10 (ten i)
 
 -- ---- each fits its record
 -- a rounded number fits its field
-held : (x : Float) → canHold (field signed 14) (millimetres (roundedOf x)) ≡ true
+held : (x : Float) → can_hold (field signed 14) (millimetres (rounded_of x)) ≡ true
 held nan = refl
 held (inf s) = refl
 held (fin s m e) = go (in_range (whole_of (fin s m e))) refl
   where
-    go : (b : Bool) → in_range (whole_of (fin s m e)) ≡ b → canHold (field signed 14) (millimetres (cond b (Whole (whole_of (fin s m e))) OutOfRange)) ≡ true
+    go : (b : Bool) → in_range (whole_of (fin s m e)) ≡ b → can_hold (field signed 14) (millimetres (cond b (Whole (whole_of (fin s m e))) OutOfRange)) ≡ true
     go true t = t
     go false t = refl
 
 -- a corner whose numbers fit their fields
 record Held (c : Corner) : Type 0 where
-  x : canHold (field signed 14) c.x ≡ true
-  y : canHold (field signed 14) c.y ≡ true
-  z : canHold (field signed 14) c.z ≡ true
+  x : can_hold (field signed 14) c.x ≡ true
+  y : can_hold (field signed 14) c.y ≡ true
+  z : can_hold (field signed 14) c.z ≡ true
 
-corner-held : (v : Vertex) → Held (cornerOf v)
-unfolding cornerOf
+corner-held : (v : Vertex) → Held (corner_of v)
+unfolding corner_of
 corner-held v = record { x = held v.x; y = held v.y; z = held v.z }
 
-held_fits : {a b c : Corner} → Held a → Held b → Held c → triangleFits version1 (triangleOf a b c) ≡ true
+held_fits : {a b c : Corner} → Held a → Held b → Held c → triangle_fits version1 (triangle_of a b c) ≡ true
 held_fits p q r = rw (p.x, p.y, p.z, q.x, q.y, q.z, r.x, r.y, r.z)
 
-pub triangle-fits : (s : List ℕ) (f : Form) (at : ℕ) → triangleFits version1 (triangleAt s f at) ≡ true
-unfolding triangleAt
+pub triangle-fits : (s : List ℕ) (f : Form) (at : ℕ) → triangle_fits version1 (triangle_at s f at) ≡ true
+unfolding triangle_at
 triangle-fits s f at = held_fits (corner-held _) (corner-held _) (corner-held _)
 
-pub all_fit : (s : List ℕ) (f : Form) → all_below (λ i. triangleFits version1 (triangleNumbers (triangles s f) i)) f.faces ≡ true
-all_fit s f = all_of _ f.faces (λ i h. ap (triangleFits version1) (numbers-are s f i h) ∙ triangle-fits s f (facePlace s f i))
+pub all_fit : (s : List ℕ) (f : Form) → all_below (λ i. triangle_fits version1 (triangle_numbers (triangles s f) i)) f.faces ≡ true
+all_fit s f = all_of _ f.faces (λ i h. ap (triangle_fits version1) (numbers-are s f i h) ∙ triangle-fits s f (face_place s f i))
 
 -- ---- the header
-pub grid-any : (g : GridValues) (n : ℕ) → n < 4096 → gridFits g ≡ true → headerFits version1 (headerToWrite g n) ≡ true
+pub grid-any : (g : GridValues) (n : ℕ) → n < 4096 → grid_fits g ≡ true → header_fits version1 (header_to_write g n) ≡ true
 grid-any g n h e =
-    let fits : canHold (field plain 12) (pos n) ≡ true = rw (le-leb 0 n (omega arith), le-leb n 4095 (omega arith)) in
+    let fits : can_hold (field plain 12) (pos n) ≡ true = rw (le-leb 0 n (omega arith), le-leb n 4095 (omega arith)) in
     rw fits e

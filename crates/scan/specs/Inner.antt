@@ -2,34 +2,34 @@
 use Rattle.std.specs.Prelude.{List, [], ◌∷◌, ◌++◌, ◌≡◌, ℕ, ◌+◌, ◌*◌, ◌<◌, ℤ, leb}
 use Rattle.refusal.specs.Questions.{Question, ◌asks◌}
 use Rattle.refusal.specs.Inner.{passed, asked}
-use Rattle.layout.specs.Layout.{version1, recordStart}
-use Rattle.layout_write.specs.Writing.{recordBytes}
+use Rattle.layout.specs.Layout.{version1, record_start}
+use Rattle.layout_write.specs.Writing.{record_bytes}
 use Rattle.ply_header.specs.declared.Form.{Form}
 use Rattle.ply_header.specs.declared.Header.TheVariants.{Taken}
 use Rattle.ply.specs.declared.Corner.{Corner}
-use Rattle.ply.specs.Body.{facePlace, taken, cornerAt, triangleAt}
+use Rattle.ply.specs.Body.{face_place, taken, corner_at, triangle_at}
 use Rattle.ply.specs.Inner.{Cornered}
-use Rattle.scan.specs.Scan.{plyQuestions}
+use Rattle.scan.specs.Scan.{ply_questions}
 
 -- The questions of a file whose header has the form, with the room for its frame file last.
-abbrev pub scanQuestions : List ℕ → Form → (room : ℕ) → List Question
-scanQuestions s f room = plyQuestions s f ++ ((11 asks leb (recordStart version1 f.faces) room) ∷ [])
+abbrev pub scan_questions : List ℕ → Form → (room : ℕ) → List Question
+scan_questions s f room = ply_questions s f ++ ((11 asks leb (record_start version1 f.faces) room) ∷ [])
 
 -- The bytes of the record of face i.
-abbrev pub faceBytes : List ℕ → Form → ℕ → List ℕ
-faceBytes s f i = recordBytes version1 (triangleAt s f (facePlace s f i))
+abbrev pub face_bytes : List ℕ → Form → ℕ → List ℕ
+face_bytes s f i = record_bytes version1 (triangle_at s f (face_place s f i))
 
 -- A file that passed all questions, with the room.
 pub record Accepted (s : List ℕ) (f : Form) (room : ℕ) : Type 0 where
   pub form : taken s ≡ Taken f
-  pub yes : asked (scanQuestions s f room) ≡ passed
+  pub yes : asked (scan_questions s f room) ≡ passed
 
 -- The three numbers of a corner; and those of corner j of the face at a place.
-abbrev pub numbersOf : Corner → List ℤ
-numbersOf c = c.x ∷ c.y ∷ c.z ∷ []
+abbrev pub numbers_of : Corner → List ℤ
+numbers_of c = c.x ∷ c.y ∷ c.z ∷ []
 
-abbrev pub cornerNumbers : List ℕ → Form → (at j : ℕ) → List ℤ
-cornerNumbers s f at j = numbersOf (cornerAt s f (at + 1 + 4 * j))
+abbrev pub corner_numbers : List ℕ → Form → (at j : ℕ) → List ℤ
+corner_numbers s f at j = numbers_of (corner_at s f (at + 1 + 4 * j))
 
 -- The face at a place has three corners, each of them one of the file's vertices.
 pub record Faced (s : List ℕ) (f : Form) (at : ℕ) : Type 0 where

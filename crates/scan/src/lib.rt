@@ -1,12 +1,12 @@
 // Makes a frame file from a scanner's file: the triangles of its faces, in whole millimetres, as the writer would write them.
 ghost use Rattle.std.specs.Prelude.{true, ◌++◌, ◌≡◌, length, take, drop};
-ghost use Rattle.refusal.specs.Inner.{saidVerdict, asked};
-ghost use Rattle.layout.specs.Layout.{version1, recordStart};
-ghost use Rattle.layout_write.specs.Writing.{headerBytes};
-ghost use Rattle.frame_write.specs.Write.{headerToWrite, concatBelow, saidWritten};
-ghost use Rattle.ply.specs.Body.{taken, triangleAt};
-ghost use Rattle.scan.specs.Scan.{gridFits, scanning, scanBytes};
-ghost use Rattle.scan.specs.Inner.{scanQuestions, faceBytes, numbersOf, cornerNumbers, Accepted, Faced};
+ghost use Rattle.refusal.specs.Inner.{said_verdict, asked};
+ghost use Rattle.layout.specs.Layout.{version1, record_start};
+ghost use Rattle.layout_write.specs.Writing.{header_bytes};
+ghost use Rattle.frame_write.specs.Write.{header_to_write, concat_below, said_written};
+ghost use Rattle.ply.specs.Body.{taken, triangle_at};
+ghost use Rattle.scan.specs.Scan.{grid_fits, scanning, scan_bytes};
+ghost use Rattle.scan.specs.Inner.{scan_questions, face_bytes, numbers_of, corner_numbers, Accepted, Faced};
 
 use frame_write::{GridValues, Written};
 use ply::Corner;
@@ -16,7 +16,7 @@ use refusal::{Limit, Verdict};
 // Writes the frame file of a grid and of a scanner's file to the start of `out`. No vertex is copied: each face's are read where they
 // stand.
 pub fn scan(ply: &[u8], grid: GridValues, out: &mut [u8]) -> Written
-    ensures { (saidWritten result ≡ scanning grid ply.now (length out.old)) × (out.new ≡ scanBytes grid ply.now out.old) }
+    ensures { (said_written result ≡ scanning grid ply.now (length out.old)) × (out.new ≡ scan_bytes grid ply.now out.old) }
 {
     if !grid_fits(grid) {
         return Written::Refused(Limit::Unwritable);
@@ -32,7 +32,7 @@ pub fn scan(ply: &[u8], grid: GridValues, out: &mut [u8]) -> Written
 
 // May the grid's values be written? The writer asks it of the header; the count that stands in for that of the faces fits its field.
 fn grid_fits(grid: GridValues) -> bool
-    ensures { result ≡ gridFits grid }
+    ensures { result ≡ grid_fits grid }
 {
     writable::header_fits(layout::version_1(), &frame_write::header_numbers(grid, 0))
 }
@@ -40,7 +40,7 @@ fn grid_fits(grid: GridValues) -> bool
 // Puts the questions to a file whose header has the form: of its vertices, of its faces, then of the room.
 fn check(s: &[u8], f: Form, room: usize) -> Verdict
     requires { taken s.now ≡ Header.Taken f }
-    ensures { saidVerdict result ≡ asked (scanQuestions s.now f room) }
+    ensures { said_verdict result ≡ asked (scan_questions s.now f room) }
 {
     match ply::check_vertices(s, f) {
         Verdict::Broken(vertex) => Verdict::Broken(vertex),
@@ -58,8 +58,8 @@ fn check(s: &[u8], f: Form, room: usize) -> Verdict
 
 // Writes the frame file of a scanner's file that passed all questions, and answers its length.
 fn put_file(s: &[u8], f: Form, grid: GridValues, out: &mut [u8]) -> usize
-    requires { (gridFits grid ≡ true) × Accepted s.now f (length out.old) }
-    ensures { (result ≡ recordStart version1 f.faces) × (out.new ≡ (headerBytes version1 (headerToWrite grid f.faces) ++ concatBelow (faceBytes s.now f) f.faces) ++ drop (recordStart version1 f.faces) out.old) }
+    requires { (grid_fits grid ≡ true) × Accepted s.now f (length out.old) }
+    ensures { (result ≡ record_start version1 f.faces) × (out.new ≡ (header_bytes version1 (header_to_write grid f.faces) ++ concat_below (face_bytes s.now f) f.faces) ++ drop (record_start version1 f.faces) out.old) }
 {
     frame_write::put_head(grid, f.faces, out);
     put_faces(s, f, out);
@@ -69,7 +69,7 @@ fn put_file(s: &[u8], f: Form, grid: GridValues, out: &mut [u8]) -> usize
 // Writes a record for each face, behind the header's place.
 fn put_faces(s: &[u8], f: Form, out: &mut [u8])
     requires { Accepted s.now f (length out.old) }
-    ensures { out.new ≡ take 12 out.old ++ (concatBelow (faceBytes s.now f) f.faces ++ drop (recordStart version1 f.faces) out.old) }
+    ensures { out.new ≡ take 12 out.old ++ (concat_below (face_bytes s.now f) f.faces ++ drop (record_start version1 f.faces) out.old) }
 {
     let mut at = ply::faces_start(s, f);
     let mut i = 0;
@@ -83,7 +83,7 @@ fn put_faces(s: &[u8], f: Form, out: &mut [u8])
 // The ten numbers of the triangle of the face at `at`.
 fn triangle(s: &[u8], f: Form, at: usize) -> [i32; 10]
     requires { Faced s.now f at }
-    ensures { result ≡ triangleAt s.now f at }
+    ensures { result ≡ triangle_at s.now f at }
 {
     let mut numbers = [0i32; 10];
     put_corners(s, f, at, &mut numbers);
@@ -94,7 +94,7 @@ fn triangle(s: &[u8], f: Form, at: usize) -> [i32; 10]
 // put the reading of a vertex.
 fn put_corners(s: &[u8], f: Form, at: usize, numbers: &mut [i32])
     requires { Faced s.now f at × (length numbers.old ≡ 10) }
-    ensures { numbers.new ≡ take 1 numbers.old ++ (concatBelow (cornerNumbers s.now f at) 3 ++ drop 10 numbers.old) }
+    ensures { numbers.new ≡ take 1 numbers.old ++ (concat_below (corner_numbers s.now f at) 3 ++ drop 10 numbers.old) }
 {
     let mut j = 0;
     while j < 3 {
@@ -108,7 +108,7 @@ fn put_corners(s: &[u8], f: Form, at: usize, numbers: &mut [i32])
 // Puts the three numbers of a corner.
 fn put_corner(part: &mut [i32], c: Corner)
     requires { length part.old ≡ 3 }
-    ensures { part.new ≡ numbersOf c }
+    ensures { part.new ≡ numbers_of c }
 {
     let x = c.x;
     let y = c.y;

@@ -18,35 +18,35 @@ use lib.Ieee.{of_bits, of_int}
 use lib.ListN.{replicate}
 use Rattle.bits.specs.Field.{bytes_of}
 use Rattle.refusal.specs.Limit.{gives, refused}
-use Rattle.refusal.specs.Questions.{answered, ofEach}
+use Rattle.refusal.specs.Questions.{answered, of_each}
 use Rattle.text.specs.Text.{digits, decimal}
-use Rattle.layout_write.specs.Writing.{headerBytes, recordBytes}
+use Rattle.layout_write.specs.Writing.{header_bytes, record_bytes}
 use Rattle.writable.specs.Fits.{all_below}
 use Rattle.frame_write.specs.declared.GridValues.{GridValues}
-use Rattle.frame_write.specs.Write.{concatBelow, writing, writtenBytes}
+use Rattle.frame_write.specs.Write.{concat_below, writing, written_bytes}
 use Rattle.rounding.specs.declared.Rounded.TheVariants.{Whole}
-use Rattle.rounding.specs.Rounding.{roundedOf, Says}
+use Rattle.rounding.specs.Rounding.{rounded_of, Says}
 use Rattle.rounding.proofs.Meaning.{says}
 use Rattle.ply_header.specs.declared.Scalar.{Scalar}
 use Rattle.ply_header.specs.declared.Scalar.TheVariants.{Float, Double, Int}
 use Rattle.ply_header.specs.declared.Header.TheVariants.{Taken}
 use Rattle.ply_header.specs.Text.{bytes}
-use Rattle.ply_header.specs.Format.{headerText}
+use Rattle.ply_header.specs.Format.{header_text}
 use Rattle.ply_header.proofs.WorkedHeaders.{header-parts}
-use Rattle.ply_vertex.specs.Vertex.{size_of, vertexAt, placed}
+use Rattle.ply_vertex.specs.Vertex.{size_of, vertex_at, placed}
 use Rattle.ply.specs.declared.Corner.{Corner}
-use Rattle.ply.specs.Body.{vertexPlace, faceFrom, facePlace, taken, isIndex, goodFace, cornerOf, triangleAt}
-use Rattle.scan.specs.Scan.{triangles, scanned, scanning, scanBytes}
-use Rattle.scan_words.specs.Mesh.{Three, Mesh, bytesIn, lowestFirst, meshFile, value_of, Meant, MeantVertex, Scannable}
+use Rattle.ply.specs.Body.{vertex_place, face_from, face_place, taken, is_index, good_face, corner_of, triangle_at}
+use Rattle.scan.specs.Scan.{triangles, scanned, scanning, scan_bytes}
+use Rattle.scan_words.specs.Mesh.{Three, Mesh, bytes_in, lowest_first, mesh_file, value_of, Meant, MeantVertex, Scannable}
 
 -- What a file is computed by, all of it unfolded.
 parts : Unit {0}
-unfolding header-parts size_of vertexPlace faceFrom facePlace taken of_bits of_int vertexAt placed isIndex goodFace cornerOf triangleAt answered ofEach concatBelow triangles scanned
+unfolding header-parts size_of vertex_place face_from face_place taken of_bits of_int vertex_at placed is_index good_face corner_of triangle_at answered of_each concat_below triangles scanned
 parts = tt
 
 -- And the frame file.
 frame-parts : Unit {0}
-unfolding parts bytes_of headerBytes recordBytes all_below writing writtenBytes scanning scanBytes
+unfolding parts bytes_of header_bytes record_bytes all_below writing written_bytes scanning scan_bytes
 frame-parts = tt
 
 -- ---- the file
@@ -110,8 +110,8 @@ patterns (suc (suc k)) = record { first = 0xc600_0200; second = 0x3fdf_ffff_ffff
 abbrev mesh : Mesh
 mesh = record { x = Float; y = Double; z = Int; vertices = 3; vertex = patterns; faces = 1; face = λ k. record { first = 2; second = 0; third = 1 } }
 
-pub written-mesh : meshFile mesh ≡ file inside corners
-unfolding headerText digits decimal lowestFirst concatBelow meshFile
+pub written-mesh : mesh_file mesh ≡ file inside corners
+unfolding header_text digits decimal lowest_first concat_below mesh_file
 written-mesh = refl
 
 -- with these whole corners it can be scanned
@@ -120,7 +120,7 @@ rounded zero = record { x = pos 2; y = pos 0; z = neg_ℤ (pos 7) }
 rounded (suc zero) = record { x = pos 8191; y = pos 4; z = pos 100 }
 rounded (suc (suc k)) = record { x = neg_ℤ (pos 8192); y = pos 0; z = pos 1 }
 
-meant : (t : Scalar) (b : ℕ) {r : ℤ} → b < 256 ^ bytesIn t → roundedOf (value_of t b) ≡ Whole r → Meant t b r
+meant : (t : Scalar) (b : ℕ) {r : ℤ} → b < 256 ^ bytes_in t → rounded_of (value_of t b) ≡ Whole r → Meant t b r
 meant t b n e = record { narrow = n; rounds = subst (Says (value_of t b)) e (says (value_of t b)) }
 
 each : (k : ℕ) → MeantVertex mesh k (rounded k)
@@ -159,7 +159,7 @@ pub written-length : scanning (grid (pos 10)) (file inside corners) 28 ≡ gives
 unfolding frame-parts
 written-length = refl
 
-pub written : scanBytes (grid (pos 10)) (file inside corners) (replicate 29 0xaa)
+pub written : scan_bytes (grid (pos 10)) (file inside corners) (replicate 29 0xaa)
     ≡ (0x10 ∷ 0x41 ∷ 0x04 ∷ 0x28 ∷ 0x00 ∷ 0x00 ∷ 0x00 ∷ 0x00 ∷ 0x00 ∷ 0x00 ∷ 0x10 ∷ 0x00 ∷ [])
     ++ (0x20 ∷ 0x00 ∷ 0x00 ∷ 0x00 ∷ 0x00 ∷ 0x10 ∷ 0x00 ∷ 0x80 ∷ 0x00 ∷ 0xff ∷ 0xe5 ∷ 0xff ∷ 0xf0 ∷ 0x01 ∷ 0x00 ∷ 0x64 ∷ [])
     ++ (0xaa ∷ [])

@@ -7,13 +7,13 @@ use lib.IntN.{pos, neg_ℤ}
 use lib.Ieee.{binary32, binary64, of_bits}
 use Rattle.rounding.specs.declared.Rounded.{Rounded}
 use Rattle.rounding.specs.declared.Rounded.TheVariants.{Whole, NotFinite, OutOfRange}
-use Rattle.rounding.specs.Rounding.{roundedOf}
+use Rattle.rounding.specs.Rounding.{rounded_of}
 
 abbrev double : ℕ → Rounded
-double b = roundedOf (of_bits binary64 b)
+double b = rounded_of (of_bits binary64 b)
 
 abbrev float : ℕ → Rounded
-float b = roundedOf (of_bits binary32 b)
+float b = rounded_of (of_bits binary32 b)
 
 -- ---- doubles
 -- a half goes to the even number

@@ -11,18 +11,18 @@ use lib.IntN.{ℤ}
 use lib.ListN.{length, take}
 use Rattle.refusal.specs.Limit.{Answer, gives, refused}
 use Rattle.round_trip.proofs.RoundTrip.{write-then-read}
-use Rattle.scan.specs.Scan.{scanned, gridFits, writingOf, scanning, scanBytes}
+use Rattle.scan.specs.Scan.{scanned, grid_fits, writing_of, scanning, scan_bytes}
 use Rattle.scan_words.specs.ScanWords.{ScanWrites, ReadsBack, ScanThenRead}
 
 pub scan-writes : ScanWrites
-unfolding scanning scanBytes
+unfolding scanning scan_bytes
 scan-writes g s zs fits given = (λ room. rw (fits, given), λ out. rw (fits, given))
 
 pub scan-then-read : ScanThenRead
 unfolding scanning
-scan-then-read g s out n = go (gridFits g) refl (scanned s) refl
+scan-then-read g s out n = go (grid_fits g) refl (scanned s) refl
   where
-    go : (b : Bool) → gridFits g ≡ b → (a : Answer (List ℤ)) → scanned s ≡ a → cond b (writingOf g a (length out)) (refused 12 0) ≡ gives n → ReadsBack g s n (take n (scanBytes g s out))
+    go : (b : Bool) → grid_fits g ≡ b → (a : Answer (List ℤ)) → scanned s ≡ a → cond b (writing_of g a (length out)) (refused 12 0) ≡ gives n → ReadsBack g s n (take n (scan_bytes g s out))
     go false fits a given e = let z : ◌≡◌ {A = ℕ} 0 1 = cc in absurd (omega arith)
     go true fits (refused m p) given e = let z : ◌≡◌ {A = ℕ} 0 1 = cc in absurd (omega arith)
     go true fits (gives zs) given e =

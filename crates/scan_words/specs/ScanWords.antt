@@ -2,28 +2,28 @@
 use Rattle.std.specs.Prelude.{true, List, ◌≡◌, ℕ, ◌+◌, ◌*◌, ◌<◌, ℤ, pos, length, get_or, take}
 use Rattle.refusal.specs.Limit.{gives}
 use Rattle.layout.specs.Layout.{version1}
-use Rattle.frame.specs.File.{headerOf}
+use Rattle.frame.specs.File.{header_of}
 use Rattle.frame.specs.Questions.{checked}
-use Rattle.writable.specs.Fits.{triangleNumbers}
+use Rattle.writable.specs.Fits.{triangle_numbers}
 use Rattle.frame_write.specs.declared.GridValues.{GridValues}
-use Rattle.frame_write.specs.Write.{writing, writtenBytes}
+use Rattle.frame_write.specs.Write.{writing, written_bytes}
 use Rattle.round_trip.specs.RoundTrip.{Reads}
 use Rattle.rounding.specs.declared.Vertex.{Vertex}
 use Rattle.rounding.specs.Rounding.{Rounds}
 use Rattle.rounding.specs.Widening.{SameValue}
 use Rattle.ply_header.specs.declared.Form.{Form}
 use Rattle.ply_header.specs.declared.Header.TheVariants.{Taken}
-use Rattle.ply_vertex.specs.Vertex.{width_of, number_at, vertexAt}
+use Rattle.ply_vertex.specs.Vertex.{width_of, number_at, vertex_at}
 use Rattle.ply.specs.declared.Corner.{Corner}
-use Rattle.ply.specs.Body.{facePlace, taken, vertexOf, index_at, triangleOf}
-use Rattle.scan.specs.Scan.{scanned, gridFits, scanning, scanBytes}
+use Rattle.ply.specs.Body.{face_place, taken, vertex_of, index_at, triangle_of}
+use Rattle.scan.specs.Scan.{scanned, grid_fits, scanning, scan_bytes}
 
 -- ---- from numbers to triangles
 -- The three doubles of a vertex have the values of the file's three numbers.
 pub record WithoutLoss (s : List ℕ) (f : Form) (at : ℕ) : Type 0 where
-  pub x : SameValue (number_at f.x s at) (vertexAt s f at).x
-  pub y : SameValue (number_at f.y s (at + width_of f.x)) (vertexAt s f at).y
-  pub z : SameValue (number_at f.z s (at + width_of f.x + width_of f.y)) (vertexAt s f at).z
+  pub x : SameValue (number_at f.x s at) (vertex_at s f at).x
+  pub y : SameValue (number_at f.y s (at + width_of f.x)) (vertex_at s f at).y
+  pub z : SameValue (number_at f.z s (at + width_of f.x + width_of f.y)) (vertex_at s f at).z
 
 -- On each axis the corner has the whole number nearest to the vertex's exact value: the distance is at most half, a half goes to the even one,
 -- and the number is from -8,192 to 8,191.
@@ -37,7 +37,7 @@ pub record CornerFrom (s : List ℕ) (f : Form) (at : ℕ) (c : Corner) : Type 0
   pub vertex : ℕ
   pub index : index_at s at ≡ pos vertex
   pub below : vertex < f.vertices
-  pub nearest : IsNearest (vertexOf s f vertex) c
+  pub nearest : IsNearest (vertex_of s f vertex) c
 
 -- The face at a place has three corners, and the ten numbers are kind 0 and these corners, in order.
 pub record TriangleFrom (s : List ℕ) (f : Form) (at : ℕ) (ns : List ℤ) : Type 0 where
@@ -48,7 +48,7 @@ pub record TriangleFrom (s : List ℕ) (f : Form) (at : ℕ) (ns : List ℤ) : T
   pub first : CornerFrom s f (at + 1) a
   pub second : CornerFrom s f (at + 5) b
   pub third : CornerFrom s f (at + 9) c
-  pub numbers : ns ≡ triangleOf a b c
+  pub numbers : ns ≡ triangle_of a b c
 
 -- ---- the claims
 -- Vertices are widened without loss.
@@ -59,22 +59,22 @@ Widens = (s : List ℕ) → ((i : ℕ) → get_or s i 0 < 256) → (f : Form) (a
 abbrev pub ScanRounds : Type 0
 ScanRounds =
     (s : List ℕ) (f : Form) (zs : List ℤ) → taken s ≡ Taken f → scanned s ≡ gives zs
-    → (length zs ≡ 10 * f.faces) × ((k : ℕ) → k < f.faces → TriangleFrom s f (facePlace s f k) (triangleNumbers zs k))
+    → (length zs ≡ 10 * f.faces) × ((k : ℕ) → k < f.faces → TriangleFrom s f (face_place s f k) (triangle_numbers zs k))
 
 -- The outcome is what the writer says and leaves of these triangles.
 abbrev pub ScanWrites : Type 0
 ScanWrites =
-    (g : GridValues) (s : List ℕ) (zs : List ℤ) → gridFits g ≡ true → scanned s ≡ gives zs
-    → ((room : ℕ) → scanning g s room ≡ writing g zs room) × ((out : List ℕ) → scanBytes g s out ≡ writtenBytes g zs out)
+    (g : GridValues) (s : List ℕ) (zs : List ℤ) → grid_fits g ≡ true → scanned s ≡ gives zs
+    → ((room : ℕ) → scanning g s room ≡ writing g zs room) × ((out : List ℕ) → scan_bytes g s out ≡ written_bytes g zs out)
 
 -- The frame file t, of n bytes, is accepted, and has the grid's values and the triangles of the file.
 pub record ReadsBack (g : GridValues) (s : List ℕ) (n : ℕ) (t : List ℕ) : Type 0 where
   pub numbers : List ℤ
   pub given : scanned s ≡ gives numbers
   pub long : length t ≡ n
-  pub accepted : checked t ≡ gives (headerOf t)
+  pub accepted : checked t ≡ gives (header_of t)
   pub reads : Reads version1 g numbers t
 
 -- So reading what a scan wrote yields the grid's values given and the file's triangles.
 abbrev pub ScanThenRead : Type 0
-ScanThenRead = (g : GridValues) (s out : List ℕ) (n : ℕ) → scanning g s (length out) ≡ gives n → ReadsBack g s n (take n (scanBytes g s out))
+ScanThenRead = (g : GridValues) (s out : List ℕ) (n : ℕ) → scanning g s (length out) ≡ gives n → ReadsBack g s n (take n (scan_bytes g s out))

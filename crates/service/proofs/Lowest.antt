@@ -17,7 +17,7 @@ use lib.Signed.{◌≤ℤ◌}
 use Rattle.geometry.specs.declared.Point.{Point}
 use Rattle.geometry.specs.declared.Triangle.{Triangle}
 use Rattle.geometry.specs.Geometry.{cube}
-use Rattle.overlap.specs.Rule.{overlapsBox}
+use Rattle.overlap.specs.Rule.{overlaps_box}
 use Rattle.reach.specs.Reaches.{ReachesBox}
 use Rattle.reach.proofs.Theorem.{cell-rule}
 use Rattle.service.specs.Bar.{BehindCell, clear, bar, lowest}
@@ -57,8 +57,8 @@ module _ (has : ℕ → Bool) where
 
 -- ---- triangles and a box, by the overlap rule
 module _ {t : Triangle} {p : Point} {d : ℤ} (thick : pos 0 ≤ℤ d) where
-  pub overlap-reaches : overlapsBox t p (cube d) ≡ true → ReachesBox t p (cube d)
+  pub overlap-reaches : overlaps_box t p (cube d) ≡ true → ReachesBox t p (cube d)
   overlap-reaches h = (cell-rule t p d thick).0 (subst T (sym h) tt)
 
-  pub apart-not : overlapsBox t p (cube d) ≡ false → ReachesBox t p (cube d) → ⊥
+  pub apart-not : overlaps_box t p (cube d) ≡ false → ReachesBox t p (cube d) → ⊥
   apart-not h r = subst T h ((cell-rule t p d thick).1 r)

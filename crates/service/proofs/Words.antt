@@ -11,24 +11,24 @@ use mathlib.Core.Path.{◌≡◌, refl}
 use Prim.Native.Nat.{ℕ, ◌+◌, ◌<◌}
 use lib.IntN.{pos, nat_abs}
 use Rattle.geometry.specs.declared.Point.{Point}
-use Rattle.geometry.specs.Geometry.{Axis, xOf, yOf, z_of, cube}
-use Rattle.grid.specs.Grid.{cellCount, cornerOf}
-use Rattle.reach.specs.Reaches.{weightedSum, Between, ReachesBox}
+use Rattle.geometry.specs.Geometry.{Axis, x_of, y_of, z_of, cube}
+use Rattle.grid.specs.Grid.{cell_count, corner_of}
+use Rattle.reach.specs.Reaches.{weighted_sum, Between, ReachesBox}
 use Rattle.refusal.specs.Limit.{gives}
 use Rattle.layout.specs.declared.Header.{Header}
-use Rattle.frame.specs.File.{headerOf, recordOf}
+use Rattle.frame.specs.File.{header_of, record_of}
 use Rattle.frame.specs.Questions.{checked}
 use Rattle.weights.specs.declared.Weights.{Weights}
 use Rattle.service.specs.declared.BarAnswer.TheVariants.{Clear, Bar}
-use Rattle.service.specs.Bar.{clear, bar, behind, saidBar, Shown}
+use Rattle.service.specs.Bar.{clear, bar, behind, said_bar, Shown}
 use Rattle.service.proofs.Answers.{finding, behind-found}
 
 module _ (s : List ℕ) (n : ℕ) where
   abbrev at : Point
-  at = cornerOf (headerOf s).grid n
+  at = corner_of (header_of s).grid n
 
   abbrev edge : Point
-  edge = cube (headerOf s).grid.edge
+  edge = cube (header_of s).grid.edge
 
   module _ {i : ℕ} {w : Weights} (b : Shown s n (Bar i w)) where
     abbrev a0 : ℕ
@@ -45,19 +45,19 @@ module _ (s : List ℕ) (n : ℕ) where
 
     -- on an axis, the weighted sum of the record's corners lies between the cell's sides
     abbrev Inside : Axis → Type 0
-    Inside a = Between at edge (a0 + a1 + a2) a (weightedSum (recordOf s i).triangle a0 a1 a2 a)
+    Inside a = Between at edge (a0 + a1 + a2) a (weighted_sum (record_of s i).triangle a0 a1 a2 a)
 
-    pub point-inside : Inside xOf × Inside yOf × Inside z_of
+    pub point-inside : Inside x_of × Inside y_of × Inside z_of
     point-inside = let v = b.shows in rw (v.w0, v.w1, v.w2) (v.reaches.x, v.reaches.y, v.reaches.z)
 
-    pub bar-lowest : (i < (headerOf s).count) × ((j : ℕ) → j < i → ReachesBox (recordOf s j).triangle at edge → ⊥)
+    pub bar-lowest : (i < (header_of s).count) × ((j : ℕ) → j < i → ReachesBox (record_of s j).triangle at edge → ⊥)
     bar-lowest = (b.known, b.none-lower)
 
-  pub clear_none : Shown s n Clear → (j : ℕ) → j < (headerOf s).count → ReachesBox (recordOf s j).triangle at edge → ⊥
+  pub clear_none : Shown s n Clear → (j : ℕ) → j < (header_of s).count → ReachesBox (record_of s j).triangle at edge → ⊥
   clear_none none = none
 
-  pub cell-answered : (h : Header) → checked s ≡ gives h → n < cellCount h.grid → behind s n ≡ gives (finding s n)
+  pub cell-answered : (h : Header) → checked s ≡ gives h → n < cell_count h.grid → behind s n ≡ gives (finding s n)
   cell-answered = behind-found s n
 
-pub said : (w : Weights) → (saidBar Clear ∷ saidBar (Bar 2 w) ∷ []) ≡ (gives clear ∷ gives (bar 2) ∷ [])
+pub said : (w : Weights) → (said_bar Clear ∷ said_bar (Bar 2 w) ∷ []) ≡ (gives clear ∷ gives (bar 2) ∷ [])
 said w = refl

@@ -2,14 +2,14 @@
 use Rattle.std.specs.Prelude.{Bool, cond, List, [], ◌∷◌, ◌++◌, ℕ, zero, suc, ◌<◌, ◌^◌, ltb}
 use Rattle.geometry.specs.declared.Point.{Point}
 use Rattle.geometry.specs.Geometry.{cube}
-use Rattle.refusal.specs.Limit.{Answer, gives, saidLimit}
+use Rattle.refusal.specs.Limit.{Answer, gives, said_limit}
 use Rattle.refusal.specs.Questions.{Question, ◌asks◌, answered}
 use Rattle.grid.specs.declared.Grid.{Grid}
-use Rattle.grid.specs.Grid.{cellCount, boxOfCell, latticeOf}
-use Rattle.overlap.specs.Cells.{overlapsCell}
+use Rattle.grid.specs.Grid.{cell_count, box_of_cell, lattice_of}
+use Rattle.overlap.specs.Cells.{overlaps_cell}
 use Rattle.reach.specs.Reaches.{ReachesBox}
-use Rattle.frame.specs.File.{headerOf, recordOf}
-use Rattle.frame.specs.Questions.{fileQuestions}
+use Rattle.frame.specs.File.{header_of, record_of}
+use Rattle.frame.specs.Questions.{file_questions}
 use Rattle.weights.specs.declared.Weights.{Weights}
 use Rattle.weights.specs.Weights.{Weighs}
 use Rattle.service.specs.declared.BarAnswer.{BarAnswer}
@@ -29,35 +29,35 @@ lowest has (suc n) = elim (lowest has n) [ bar i ↦ bar i | clear ↦ cond (has
 
 -- ---- the answer
 -- Question 16: is the cell's number below the number of cells?
-abbrev pub cellQuestion : Grid → ℕ → Question
-cellQuestion g n = 16 asks ltb n (cellCount g)
+abbrev pub cell_question : Grid → ℕ → Question
+cell_question g n = 16 asks ltb n (cell_count g)
 
 -- Questions 1 to 7, then 16, of a file s and a cell n.
-abbrev pub barQuestions : List ℕ → ℕ → List Question
-barQuestions s n = fileQuestions s ++ (cellQuestion (headerOf s).grid n ∷ [])
+abbrev pub bar_questions : List ℕ → ℕ → List Question
+bar_questions s n = file_questions s ++ (cell_question (header_of s).grid n ∷ [])
 
 -- The call gives the lowest record whose triangle overlaps the cell's box, or clear. The boxes of the cells are the cells themselves.
 unfoldable pub behind : (file : List ℕ) (cell : ℕ) → Answer BehindCell
 behind s n =
-    let g = (headerOf s).grid in
-    answered (barQuestions s n) (lowest (λ i. overlapsCell g (latticeOf g) (recordOf s i).triangle n) (headerOf s).count)
+    let g = (header_of s).grid in
+    answered (bar_questions s n) (lowest (λ i. overlaps_cell g (lattice_of g) (record_of s i).triangle n) (header_of s).count)
 
 -- What each case of the code's enum says. Of weights it says nothing: other weights would serve.
-abbrev pub saidBar : BarAnswer → Answer BehindCell
-saidBar Clear = gives clear
-saidBar (B.Bar i w) = gives (bar i)
-saidBar (Refused l) = saidLimit l
+abbrev pub said_bar : BarAnswer → Answer BehindCell
+said_bar Clear = gives clear
+said_bar (B.Bar i w) = gives (bar i)
+said_bar (Refused l) = said_limit l
 
 -- ---- what it means, in the words of demand 3
 -- None of the triangles of the first n records reaches the box.
 abbrev pub NoneReaches : List ℕ → (n : ℕ) (p d : Point) → Type 0
-NoneReaches s n p d = (i : ℕ) → i < n → ReachesBox (recordOf s i).triangle p d → ⊥
+NoneReaches s n p d = (i : ℕ) → i < n → ReachesBox (record_of s i).triangle p d → ⊥
 
 -- Record i is the lowest of `count` whose triangle reaches the box, and the weights show it: whole, none negative, adding to at least 1 and less than 2^30, with the
 -- weighted point in the closed box.
 pub record ShowsBar (s : List ℕ) (count : ℕ) (p d : Point) (i : ℕ) (w : Weights) : Type 0 where
   pub known : i < count
-  pub shows : Weighs (2 ^ 30) (recordOf s i).triangle p d w
+  pub shows : Weighs (2 ^ 30) (record_of s i).triangle p d w
   pub none-lower : NoneReaches s i p d
 
 -- The claim, of an answer: clear is said only where no triangle reaches the box; a bar is the lowest that does.
@@ -69,6 +69,6 @@ ShownAt s count p d (Refused l) = Unit {0}
 -- The same of all triangles of a file and the box of cell n.
 abbrev pub Shown : (file : List ℕ) (cell : ℕ) → BarAnswer → Type 0
 Shown s n =
-    let g = (headerOf s).grid in
-    let l = latticeOf g in
-    ShownAt s (headerOf s).count (boxOfCell g l n) (cube l.extent)
+    let g = (header_of s).grid in
+    let l = lattice_of g in
+    ShownAt s (header_of s).count (box_of_cell g l n) (cube l.extent)

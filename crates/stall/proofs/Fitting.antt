@@ -13,22 +13,22 @@ use lib.IntN.{ℤ}
 use lib.ListN.{length}
 use Rattle.layout.specs.declared.Header.{Header}
 use Rattle.layout.specs.Layout.{version1}
-use Rattle.frame.specs.File.{headerOf}
+use Rattle.frame.specs.File.{header_of}
 use Rattle.refusal.specs.Limit.{Answer, gives, refused}
-use Rattle.refusal.specs.Questions.{answered, ofEach}
+use Rattle.refusal.specs.Questions.{answered, of_each}
 use Rattle.refusal.specs.Inner.{Passing, asked}
-use Rattle.frame.specs.Questions.{fileQuestions, reading}
+use Rattle.frame.specs.Questions.{file_questions, reading}
 use Rattle.refusal.proofs.Asking.{stopped, through, and_then, first-append}
 use Rattle.layout.proofs.Bounds.{version1-usable, header-bounded}
-use Rattle.grid.specs.Grid.{cellCount}
+use Rattle.grid.specs.Grid.{cell_count}
 use Rattle.grid.specs.declared.Grid.{Grid}
 use Rattle.geometry.specs.declared.Point.{Point}
-use Rattle.map.specs.Map.{isFilled, countBelow}
+use Rattle.map.specs.Map.{is_filled, count_below}
 use Rattle.map.proofs.Counts.{count_most}
-use Rattle.fill.specs.Fill.{gridOf, filledIn, mapQuestion, fillQuestions, filling}
+use Rattle.fill.specs.Fill.{grid_of, filled_in, map_question, fill_questions, filling}
 use Rattle.steps.specs.Steps.{beginning, joining, ending}
 use Rattle.steps.proofs.Joined.{present-most}
-use Rattle.demand.specs.Route.{pointCount, points_of, Finding, free, blocked, tested, countFits, pointQuestion, pointQuestions, routeAnswer}
+use Rattle.demand.specs.Route.{point_count, points_of, Finding, free, blocked, tested, count_fits, point_question, point_questions, route_answer}
 use Rattle.demand.proofs.Points.{points-length}
 use Rattle.demand.proofs.Demand.{blocked-in}
 use Rattle.pack.proofs.Unpack.{Fits, FitsCount, FitsAlways}
@@ -45,28 +45,28 @@ module _ {A : Type 0} (P : A → Type 0) where
 -- ---- questions 1 to 8
 module _ (s : List ℕ) where
   abbrev h : Header
-  h = headerOf s
+  h = header_of s
 
-  fill-fits : (len : ℕ) → FitAll (fillQuestions s len)
-  fill-fits len = fit_append (fileQuestions s) (mapQuestion (gridOf s) len ∷ []) (file-fits s) ((lit< tt, lit< tt), tt)
+  fill-fits : (len : ℕ) → FitAll (fill_questions s len)
+  fill-fits len = fit_append (file_questions s) (map_question (grid_of s) len ∷ []) (file-fits s) ((lit< tt, lit< tt), tt)
 
-  cells-most : cellCount (gridOf s) ≤ 64 * 64 * 64
+  cells-most : cell_count (grid_of s) ≤ 64 * 64 * 64
   cells-most = let g = (header-bounded version1 version1-usable s).grid in mul-le-mul (mul-le-mul g.x.most g.y.most) g.z.most
 
   -- ---- the calls
   pub reading-fits : (i : ℕ) → Fits FitsAlways (reading s i)
   unfolding reading
-  reading-fits i = answered-fits FitsAlways _ (fileQuestions s) (file-fits s) tt
+  reading-fits i = answered-fits FitsAlways _ (file_questions s) (file-fits s) tt
 
   -- a call that puts these questions and gives a small number
-  count_fits : (len : ℕ) {n : ℕ} → n < 2 ^ 32 → Fits FitsCount (answered (fillQuestions s len) n)
-  count_fits len = answered-fits FitsCount _ (fillQuestions s len) (fill-fits len)
+  count_fits : (len : ℕ) {n : ℕ} → n < 2 ^ 32 → Fits FitsCount (answered (fill_questions s len) n)
+  count_fits len = answered-fits FitsCount _ (fill_questions s len) (fill-fits len)
 
   count-lt : h.count < 4096
   count-lt = (header-bounded version1 version1-usable s).count
 
-  few-filled : (p : ℕ → Bool) → countBelow p (cellCount (gridOf s)) < 2 ^ 32
-  few-filled p = omega (arith, cells-most, count_most p (cellCount (gridOf s)))
+  few-filled : (p : ℕ → Bool) → count_below p (cell_count (grid_of s)) < 2 ^ 32
+  few-filled p = omega (arith, cells-most, count_most p (cell_count (grid_of s)))
 
   pub beginning-fits : (m : List ℕ) → Fits FitsCount (beginning s m)
   unfolding beginning
@@ -78,13 +78,13 @@ module _ (s : List ℕ) where
 
   pub ending-fits : (m : List ℕ) → Fits FitsCount (ending s m)
   unfolding ending
-  ending-fits m = count_fits (length m) (few-filled (isFilled m))
+  ending-fits m = count_fits (length m) (few-filled (is_filled m))
 
   pub filling-fits : (m : List ℕ) → Fits FitsCount (filling s m)
   unfolding filling
-  filling-fits m = count_fits (length m) (few-filled (filledIn s))
+  filling-fits m = count_fits (length m) (few-filled (filled_in s))
 
-finding-fits : (filled : ℕ → Bool) (g : Grid) (ps : List Point) → length ps ≤ 64 → cellCount g ≤ 64 * 64 * 64 → FitsFinding (tested filled g ps)
+finding-fits : (filled : ℕ → Bool) (g : Grid) (ps : List Point) → length ps ≤ 64 → cell_count g ≤ 64 * 64 * 64 → FitsFinding (tested filled g ps)
 finding-fits filled g ps few-points few-cells = go (tested filled g ps) refl
   where
     go : (f : Finding) → tested filled g ps ≡ f → FitsFinding f
@@ -93,23 +93,23 @@ finding-fits filled g ps few-points few-cells = go (tested filled g ps) refl
 
 module _ (s m : List ℕ) (ns : List ℤ) where
   finding : Finding
-  finding = tested (isFilled m) (gridOf s) (points_of ns)
+  finding = tested (is_filled m) (grid_of s) (points_of ns)
 
-  points-fit : (b : Bool) → countFits ns ≡ b → Fits FitsFinding (answered (pointQuestions (gridOf s) ns) finding)
+  points-fit : (b : Bool) → count_fits ns ≡ b → Fits FitsFinding (answered (point_questions (grid_of s) ns) finding)
   unfolding finding
   points-fit false e = subst (Fits FitsFinding) (sym (stopped _ _ _ e)) (lit< tt, lit< tt)
   points-fit true e =
-      let count = (and-eq-true_iff (leb 2 (pointCount ns)) (leb (pointCount ns) 64 && eqb (length ns % 3) 0)).0 e in
-      let most = leb-true (pointCount ns) 64 ((and-eq-true_iff (leb (pointCount ns) 64) (eqb (length ns % 3) 0)).0 count.1).0 in
+      let count = (and-eq-true_iff (leb 2 (point_count ns)) (leb (point_count ns) 64 && eqb (length ns % 3) 0)).0 e in
+      let most = leb-true (point_count ns) 64 ((and-eq-true_iff (leb (point_count ns) 64) (eqb (length ns % 3) 0)).0 count.1).0 in
       let points : length (points_of ns) ≤ 64 = omega (arith, most, points-length ns) in
       subst (Fits FitsFinding) (sym (through _ _ _ e))
-      (answered-fits FitsFinding _ (ofEach (pointQuestion (gridOf s) (points_of ns)) (length (points_of ns)))
+      (answered-fits FitsFinding _ (of_each (point_question (grid_of s) (points_of ns)) (length (points_of ns)))
       (fit-each _ _ (λ i l. (lit< tt, omega (arith, l, points))))
-      (finding-fits (isFilled m) (gridOf s) (points_of ns) points (cells-most s)))
+      (finding-fits (is_filled m) (grid_of s) (points_of ns) points (cells-most s)))
 
-  pub route-fits : Fits FitsFinding (routeAnswer s m ns)
-  unfolding routeAnswer finding
+  pub route-fits : Fits FitsFinding (route_answer s m ns)
+  unfolding route_answer finding
   route-fits =
-      let q = fillQuestions s (length m) in
-      subst (Fits FitsFinding) (sym (first-append finding q (pointQuestions (gridOf s) ns)))
-      (then-fits FitsFinding (asked q) _ (answered-fits FitsAlways tt q (fill-fits s (length m)) tt) (points-fit (countFits ns) refl))
+      let q = fill_questions s (length m) in
+      subst (Fits FitsFinding) (sym (first-append finding q (point_questions (grid_of s) ns)))
+      (then-fits FitsFinding (asked q) _ (answered-fits FitsAlways tt q (fill-fits s (length m)) tt) (points-fit (count_fits ns) refl))

@@ -1,15 +1,15 @@
 // The library for a controller's program in C or Rust: each call's answer packed into one number.
 ghost use Rattle.std.specs.Prelude.{◌++◌, ◌≡◌, length};
 ghost use Rattle.refusal.specs.Limit.{gives};
-ghost use Rattle.frame.specs.Questions.{withRecord, noRecord, reading};
-ghost use Rattle.fill.specs.Fill.{filling, filledBytes};
-ghost use Rattle.steps.specs.Steps.{beginning, begunBytes, joining, joinedBytes, ending, saidStep};
-ghost use Rattle.demand.specs.Route.{routeAnswer};
+ghost use Rattle.frame.specs.Questions.{with_record, no_record, reading};
+ghost use Rattle.fill.specs.Fill.{filling, filled_bytes};
+ghost use Rattle.steps.specs.Steps.{beginning, begun_bytes, joining, joined_bytes, ending, said_step};
+ghost use Rattle.demand.specs.Route.{route_answer};
 ghost use Rattle.demand.specs.Demand.{DemandOf, FirstOf};
-ghost use Rattle.numbers.specs.Numbers.{headerNumbers, recordNumbers, readNumbers, written};
+ghost use Rattle.numbers.specs.Numbers.{header_numbers, record_numbers, read_numbers, written};
 ghost use Rattle.numbers.specs.Inner.{Small};
-ghost use Rattle.pack.specs.Pack.{packedCount, unpackedCount};
-ghost use Rattle.stall.specs.Calls.{packedRoute, unpackedRoute, roomed, packedReading, unpackedReading};
+ghost use Rattle.pack.specs.Pack.{packed_count, unpacked_count};
+ghost use Rattle.stall.specs.Calls.{packed_route, unpacked_route, roomed, packed_reading, unpacked_reading};
 
 use fill::Filling;
 use frame::Reading;
@@ -21,7 +21,7 @@ use steps::Step;
 // in the next, and the place in the low 32 bits.
 #[unsafe(no_mangle)]
 pub extern "C" fn stall_fill(file: &[u8], map: &mut [u8]) -> u64
-    ensures { (result ≡ packedCount (filling file.now map.old)) × (unpackedCount result ≡ filling file.now map.old) × (map.new ≡ filledBytes file.now map.old) }
+    ensures { (result ≡ packed_count (filling file.now map.old)) × (unpacked_count result ≡ filling file.now map.old) × (map.new ≡ filled_bytes file.now map.old) }
 {
     match fill::fill(file, map) {
         Filling::Filled(n) => pack::pack(0, 0, 0, n),
@@ -32,7 +32,7 @@ pub extern "C" fn stall_fill(file: &[u8], map: &mut [u8]) -> u64
 // Begins a fill in steps: the map is emptied. The answer is the number of records, packed as the fill's count is.
 #[unsafe(no_mangle)]
 pub extern "C" fn stall_fill_begin(file: &[u8], map: &mut [u8]) -> u64
-    ensures { (result ≡ packedCount (beginning file.now map.old)) × (unpackedCount result ≡ beginning file.now map.old) × (map.new ≡ begunBytes file.now map.old) }
+    ensures { (result ≡ packed_count (beginning file.now map.old)) × (unpacked_count result ≡ beginning file.now map.old) × (map.new ≡ begun_bytes file.now map.old) }
 {
     pack_step(steps::begin(file, map))
 }
@@ -41,7 +41,7 @@ pub extern "C" fn stall_fill_begin(file: &[u8], map: &mut [u8]) -> u64
 // file has.
 #[unsafe(no_mangle)]
 pub extern "C" fn stall_fill_some(file: &[u8], map: &mut [u8], first: usize, count: usize) -> u64
-    ensures { (result ≡ packedCount (joining file.now map.old first count)) × (unpackedCount result ≡ joining file.now map.old first count) × (map.new ≡ joinedBytes file.now map.old first count) }
+    ensures { (result ≡ packed_count (joining file.now map.old first count)) × (unpacked_count result ≡ joining file.now map.old first count) × (map.new ≡ joined_bytes file.now map.old first count) }
 {
     pack_step(steps::some(file, map, first, count))
 }
@@ -49,14 +49,14 @@ pub extern "C" fn stall_fill_some(file: &[u8], map: &mut [u8], first: usize, cou
 // Ends a fill in steps. The answer is the number of filled cells.
 #[unsafe(no_mangle)]
 pub extern "C" fn stall_fill_end(file: &[u8], map: &[u8]) -> u64
-    ensures { (result ≡ packedCount (ending file.now map.now)) × (unpackedCount result ≡ ending file.now map.now) }
+    ensures { (result ≡ packed_count (ending file.now map.now)) × (unpacked_count result ≡ ending file.now map.now) }
 {
     pack_step(steps::end(file, map))
 }
 
 // A step's answer, packed.
 fn pack_step(step: Step) -> u64
-    ensures { result ≡ packedCount (saidStep step) }
+    ensures { result ≡ packed_count (said_step step) }
 {
     match step {
         Step::Done(n) => pack::pack(0, 0, 0, n),
@@ -68,7 +68,7 @@ fn pack_step(step: Step) -> u64
 // and the cell that it reaches first in the low 32 bits; or it is a refusal, as for the fill.
 #[unsafe(no_mangle)]
 pub extern "C" fn stall_route(file: &[u8], map: &[u8], numbers: &[i16]) -> u64
-    ensures { (result ≡ packedRoute (routeAnswer file.now map.now numbers.now)) × (unpackedRoute result ≡ routeAnswer file.now map.now numbers.now) × DemandOf file.now map.now numbers.now (unpackedRoute result) × FirstOf file.now map.now numbers.now (unpackedRoute result) }
+    ensures { (result ≡ packed_route (route_answer file.now map.now numbers.now)) × (unpacked_route result ≡ route_answer file.now map.now numbers.now) × DemandOf file.now map.now numbers.now (unpacked_route result) × FirstOf file.now map.now numbers.now (unpacked_route result) }
 {
     match route::test_route(file, map, numbers) {
         RouteAnswer::Free => pack::pack(2, 0, 0, 0),
@@ -82,7 +82,7 @@ pub extern "C" fn stall_route(file: &[u8], map: &[u8], numbers: &[i16]) -> u64
 // has not so many; or a refusal, as for the fill.
 #[unsafe(no_mangle)]
 pub extern "C" fn stall_read(file: &[u8], i: usize, out: &mut [i32]) -> u64
-    ensures { (result ≡ packedReading (roomed (reading file.now i) (length out.old))) × (unpackedReading result out.new ≡ roomed (reading file.now i) (length out.old)) × (out.new ≡ written (readNumbers (reading file.now i)) out.old) }
+    ensures { (result ≡ packed_reading (roomed (reading file.now i) (length out.old))) × (unpacked_reading result out.new ≡ roomed (reading file.now i) (length out.old)) × (out.new ≡ written (read_numbers (reading file.now i)) out.old) }
 {
     match frame::read(file, i) {
         Reading::Found(header, record) => write_both(header, record, out),
@@ -93,8 +93,8 @@ pub extern "C" fn stall_read(file: &[u8], i: usize, out: &mut [i32]) -> u64
 
 // The header's numbers into `out`, where it has room for them.
 fn write_header(header: Header, out: &mut [i32]) -> u64
-    requires { Small (headerNumbers header) }
-    ensures { (result ≡ packedReading (roomed (gives (noRecord header)) (length out.old))) × (out.new ≡ written (headerNumbers header) out.old) }
+    requires { Small (header_numbers header) }
+    ensures { (result ≡ packed_reading (roomed (gives (no_record header)) (length out.old))) × (out.new ≡ written (header_numbers header) out.old) }
 {
     if out.len() < 9 {
         return pack::pack(4, 0, 0, 9);
@@ -105,8 +105,8 @@ fn write_header(header: Header, out: &mut [i32]) -> u64
 
 // The header's numbers and a record's into `out`, where it has room for both.
 fn write_both(header: Header, rec: Record, out: &mut [i32]) -> u64
-    requires { Small (headerNumbers header) × Small (recordNumbers rec) }
-    ensures { (result ≡ packedReading (roomed (gives (withRecord header rec)) (length out.old))) × (out.new ≡ written (headerNumbers header ++ recordNumbers rec) out.old) }
+    requires { Small (header_numbers header) × Small (record_numbers rec) }
+    ensures { (result ≡ packed_reading (roomed (gives (with_record header rec)) (length out.old))) × (out.new ≡ written (header_numbers header ++ record_numbers rec) out.old) }
 {
     if out.len() < 19 {
         return pack::pack(4, 0, 0, 19);

@@ -1,10 +1,10 @@
 // The fill in steps, for a caller that has other work between them: begin, some records at a time, end.
 ghost use Rattle.std.specs.Prelude.{◌≡◌};
 ghost use Rattle.refusal.specs.Questions.{answered};
-ghost use Rattle.frame.specs.File.{headerOf};
-ghost use Rattle.frame.specs.Questions.{saidCheck};
-ghost use Rattle.fill.specs.Fill.{fillQuestions};
-ghost use Rattle.steps.specs.Steps.{present, beginning, begunBytes, joining, joinedBytes, ending, saidStep};
+ghost use Rattle.frame.specs.File.{header_of};
+ghost use Rattle.frame.specs.Questions.{said_check};
+ghost use Rattle.fill.specs.Fill.{fill_questions};
+ghost use Rattle.steps.specs.Steps.{present, beginning, begun_bytes, joining, joined_bytes, ending, said_step};
 
 use frame::Checked;
 use refusal::Limit;
@@ -18,7 +18,7 @@ pub enum Step {
 
 // Puts questions 1 to 8, and empties the map of the file's grid. Answers the number of records.
 pub fn begin(file: &[u8], map: &mut [u8]) -> Step
-    ensures { (saidStep result ≡ beginning file.now map.old) × (map.new ≡ begunBytes file.now map.old) }
+    ensures { (said_step result ≡ beginning file.now map.old) × (map.new ≡ begun_bytes file.now map.old) }
 {
     match admit(file, map.len()) {
         Checked::Refused(limit) => Step::Refused(limit),
@@ -32,7 +32,7 @@ pub fn begin(file: &[u8], map: &mut [u8]) -> Step
 // Puts questions 1 to 8, and adds the cells of `count` records from number `first` on, of those that the file has. Answers
 // how many it has.
 pub fn some(file: &[u8], map: &mut [u8], first: usize, count: usize) -> Step
-    ensures { (saidStep result ≡ joining file.now map.old first count) × (map.new ≡ joinedBytes file.now map.old first count) }
+    ensures { (said_step result ≡ joining file.now map.old first count) × (map.new ≡ joined_bytes file.now map.old first count) }
 {
     match admit(file, map.len()) {
         Checked::Refused(limit) => Step::Refused(limit),
@@ -46,7 +46,7 @@ pub fn some(file: &[u8], map: &mut [u8], first: usize, count: usize) -> Step
 
 // Puts questions 1 to 8, and answers the number of filled cells of the file's grid.
 pub fn end(file: &[u8], map: &[u8]) -> Step
-    ensures { saidStep result ≡ ending file.now map.now }
+    ensures { said_step result ≡ ending file.now map.now }
 {
     match admit(file, map.len()) {
         Checked::Refused(limit) => Step::Refused(limit),
@@ -56,7 +56,7 @@ pub fn end(file: &[u8], map: &[u8]) -> Step
 
 // Questions 1 to 8, of a file and a buffer with room for so many bytes; and the header of a file that passes.
 fn admit(file: &[u8], room: usize) -> Checked
-    ensures { saidCheck result ≡ answered (fillQuestions file.now room) (headerOf file.now) }
+    ensures { said_check result ≡ answered (fill_questions file.now room) (header_of file.now) }
 {
     match frame::check(file) {
         Checked::Refused(limit) => Checked::Refused(limit),

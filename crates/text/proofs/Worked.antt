@@ -3,18 +3,18 @@ use mathlib.Core.List.{[], ◌∷◌}
 use mathlib.Core.Path.{◌≡◌, refl}
 use lib.IntN.{pos, negsuc}
 use Rattle.text.specs.Text.{digits, decimal, spaced, spliced}
-use Rattle.text.specs.Lines.{refusedLine, freeLine, blockedLine}
+use Rattle.text.specs.Lines.{refused_line, free_line, blocked_line}
 
 -- "REFUSED 7 2"
-pub printed : refusedLine 7 2 ≡ (82 ∷ 69 ∷ 70 ∷ 85 ∷ 83 ∷ 69 ∷ 68 ∷ 32 ∷ 55 ∷ 32 ∷ 50 ∷ 10 ∷ [])
+pub printed : refused_line 7 2 ≡ (82 ∷ 69 ∷ 70 ∷ 85 ∷ 83 ∷ 69 ∷ 68 ∷ 32 ∷ 55 ∷ 32 ∷ 50 ∷ 10 ∷ [])
 unfolding digits decimal
 printed = refl
 
 -- "FREE"; "BLOCKED 62 10"
-pub free : freeLine ≡ (70 ∷ 82 ∷ 69 ∷ 69 ∷ 10 ∷ [])
+pub free : free_line ≡ (70 ∷ 82 ∷ 69 ∷ 69 ∷ 10 ∷ [])
 free = refl
 
-pub blocked : blockedLine 62 10 ≡ (66 ∷ 76 ∷ 79 ∷ 67 ∷ 75 ∷ 69 ∷ 68 ∷ 32 ∷ 54 ∷ 50 ∷ 32 ∷ 49 ∷ 48 ∷ 10 ∷ [])
+pub blocked : blocked_line 62 10 ≡ (66 ∷ 76 ∷ 79 ∷ 67 ∷ 75 ∷ 69 ∷ 68 ∷ 32 ∷ 54 ∷ 50 ∷ 32 ∷ 49 ∷ 48 ∷ 10 ∷ [])
 unfolding digits decimal
 blocked = refl
 

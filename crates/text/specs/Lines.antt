@@ -1,54 +1,54 @@
 -- The lines of a listing and of a route's answer. Definitions only.
 use Rattle.std.specs.Prelude.{List, [], ◌∷◌, ◌++◌, ℕ}
-use Rattle.text.specs.Text.{decimal, space, lineFeed}
+use Rattle.text.specs.Text.{decimal, space, line_feed}
 
 -- ---- words, with the spaces beside them
 -- "FILLED "
-abbrev pub filledWord : List ℕ
-filledWord = 70 ∷ 73 ∷ 76 ∷ 76 ∷ 69 ∷ 68 ∷ 32 ∷ []
+abbrev pub filled_word : List ℕ
+filled_word = 70 ∷ 73 ∷ 76 ∷ 76 ∷ 69 ∷ 68 ∷ 32 ∷ []
 
 -- " OF "
-abbrev pub ofWord : List ℕ
-ofWord = 32 ∷ 79 ∷ 70 ∷ 32 ∷ []
+abbrev pub of_word : List ℕ
+of_word = 32 ∷ 79 ∷ 70 ∷ 32 ∷ []
 
 -- "REFUSED "
-abbrev pub refusedWord : List ℕ
-refusedWord = 82 ∷ 69 ∷ 70 ∷ 85 ∷ 83 ∷ 69 ∷ 68 ∷ 32 ∷ []
+abbrev pub refused_word : List ℕ
+refused_word = 82 ∷ 69 ∷ 70 ∷ 85 ∷ 83 ∷ 69 ∷ 68 ∷ 32 ∷ []
 
 -- "BLOCKED "
-abbrev pub blockedWord : List ℕ
-blockedWord = 66 ∷ 76 ∷ 79 ∷ 67 ∷ 75 ∷ 69 ∷ 68 ∷ 32 ∷ []
+abbrev pub blocked_word : List ℕ
+blocked_word = 66 ∷ 76 ∷ 79 ∷ 67 ∷ 75 ∷ 69 ∷ 68 ∷ 32 ∷ []
 
 -- ---- lines
 -- "FREE"
-abbrev pub freeLine : List ℕ
-freeLine = 70 ∷ 82 ∷ 69 ∷ 69 ∷ lineFeed
+abbrev pub free_line : List ℕ
+free_line = 70 ∷ 82 ∷ 69 ∷ 69 ∷ line_feed
 
 -- A word, a number, a second word and a second number
-abbrev pub pairLine : (word : List ℕ) (a : ℕ) (second : List ℕ) (b : ℕ) → List ℕ
-pairLine word a second b = word ++ decimal a ++ second ++ decimal b ++ lineFeed
+abbrev pub pair_line : (word : List ℕ) (a : ℕ) (second : List ℕ) (b : ℕ) → List ℕ
+pair_line word a second b = word ++ decimal a ++ second ++ decimal b ++ line_feed
 
 -- "FILLED count OF cells"
-abbrev pub filledLine : (count cells : ℕ) → List ℕ
-filledLine count cells = pairLine filledWord count ofWord cells
+abbrev pub filled_line : (count cells : ℕ) → List ℕ
+filled_line count cells = pair_line filled_word count of_word cells
 
 -- "REFUSED number place"
-abbrev pub refusedLine : (number place : ℕ) → List ℕ
-refusedLine number place = pairLine refusedWord number space place
+abbrev pub refused_line : (number place : ℕ) → List ℕ
+refused_line number place = pair_line refused_word number space place
 
 -- "BLOCKED leg cell"
-abbrev pub blockedLine : (leg cell : ℕ) → List ℕ
-blockedLine leg cell = pairLine blockedWord leg space cell
+abbrev pub blocked_line : (leg cell : ℕ) → List ℕ
+blocked_line leg cell = pair_line blocked_word leg space cell
 
 -- "i j k"
-abbrev pub placeLine : (i j k : ℕ) → List ℕ
-placeLine i j k = decimal i ++ space ++ decimal j ++ space ++ decimal k ++ lineFeed
+abbrev pub place_line : (i j k : ℕ) → List ℕ
+place_line i j k = decimal i ++ space ++ decimal j ++ space ++ decimal k ++ line_feed
 
 -- ---- lengths that are enough
 -- Of a line with two words and two numbers, whatever they are.
-abbrev pub firstMost : ℕ
-firstMost = 64
+abbrev pub first_most : ℕ
+first_most = 64
 
 -- Of a cell's line. The longest is "63 63 63" with its line feed.
-abbrev pub lineMost : ℕ
-lineMost = 9
+abbrev pub line_most : ℕ
+line_most = 9

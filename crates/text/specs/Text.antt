@@ -17,18 +17,18 @@ decimal n = digits n n
 abbrev pub space : List ℕ
 space = 32 ∷ []
 
-abbrev pub lineFeed : List ℕ
-lineFeed = 10 ∷ []
+abbrev pub line_feed : List ℕ
+line_feed = 10 ∷ []
 
 -- A whole number in base ten: 45 is `-`, and negsuc n is −1 − n.
-abbrev pub signedDecimal : ℤ → List ℕ
-signedDecimal (pos n) = decimal n
-signedDecimal (negsuc n) = (45 ∷ []) ++ decimal (suc n)
+abbrev pub signed_decimal : ℤ → List ℕ
+signed_decimal (pos n) = decimal n
+signed_decimal (negsuc n) = (45 ∷ []) ++ decimal (suc n)
 
 -- Numbers, each with a space behind it.
 unfoldable pub spaced : List ℤ → List ℕ
 spaced [] = []
-spaced (z ∷ zs) = (signedDecimal z ++ space) ++ spaced zs
+spaced (z ∷ zs) = (signed_decimal z ++ space) ++ spaced zs
 
 -- ---- the bytes with a text put at a place, and every other byte as it was
 unfoldable pub spliced : List ℕ → ℕ → List ℕ → List ℕ

@@ -2,46 +2,46 @@
 // base ten, words and bytes. Each function answers the place behind what it puts.
 ghost use Rattle.std.specs.Prelude.{[], ◌∷◌, ◌≡◌, ◌+◌, ◌*◌, ◌^◌, ◌<◌, ◌≤◌, pos, length, get_or};
 ghost use Rattle.integers.specs.Within.{Within};
-ghost use Rattle.text.specs.Text.{decimal, signedDecimal, spaced};
+ghost use Rattle.text.specs.Text.{decimal, signed_decimal, spaced};
 ghost use Rattle.text.specs.Inner.{Puts};
-ghost use Rattle.text.specs.Lines.{pairLine, filledLine, refusedLine, freeLine, blockedLine, placeLine, firstMost, lineMost};
+ghost use Rattle.text.specs.Lines.{pair_line, filled_line, refused_line, free_line, blocked_line, place_line, first_most, line_most};
 
 // Puts "FILLED count OF cells" at the start.
 pub fn put_filled(out: &mut [u8], count: usize, cells: usize) -> usize
-    requires { firstMost ≤ length out.old }
-    ensures { Puts out.old 0 (filledLine count cells) out.new result }
+    requires { first_most ≤ length out.old }
+    ensures { Puts out.old 0 (filled_line count cells) out.new result }
 {
     put_pair(out, b"FILLED ", count, b" OF ", cells)
 }
 
 // Puts "REFUSED number place" at the start.
 pub fn put_refused(out: &mut [u8], number: usize, place: usize) -> usize
-    requires { firstMost ≤ length out.old }
-    ensures { Puts out.old 0 (refusedLine number place) out.new result }
+    requires { first_most ≤ length out.old }
+    ensures { Puts out.old 0 (refused_line number place) out.new result }
 {
     put_pair(out, b"REFUSED ", number, b" ", place)
 }
 
 // Puts "FREE" at the start.
 pub fn put_free(out: &mut [u8]) -> usize
-    requires { firstMost ≤ length out.old }
-    ensures { Puts out.old 0 freeLine out.new result }
+    requires { first_most ≤ length out.old }
+    ensures { Puts out.old 0 free_line out.new result }
 {
     put_word(out, 0, b"FREE\n")
 }
 
 // Puts "BLOCKED leg cell" at the start.
 pub fn put_blocked(out: &mut [u8], leg: usize, cell: usize) -> usize
-    requires { firstMost ≤ length out.old }
-    ensures { Puts out.old 0 (blockedLine leg cell) out.new result }
+    requires { first_most ≤ length out.old }
+    ensures { Puts out.old 0 (blocked_line leg cell) out.new result }
 {
     put_pair(out, b"BLOCKED ", leg, b" ", cell)
 }
 
 // Puts a line of a word, a number, a second word and a second number at the start. A number has at most 20 digits.
 fn put_pair(out: &mut [u8], word: &[u8], a: usize, second: &[u8], b: usize) -> usize
-    requires { (length word.now ≤ 8) × (length second.now ≤ 8) × (firstMost ≤ length out.old) }
-    ensures { Puts out.old 0 (pairLine word.now a second.now b) out.new result }
+    requires { (length word.now ≤ 8) × (length second.now ≤ 8) × (first_most ≤ length out.old) }
+    ensures { Puts out.old 0 (pair_line word.now a second.now b) out.new result }
 {
     let first = put_word(out, 0, word);
     let behind_a = put_number(out, first, a);
@@ -52,8 +52,8 @@ fn put_pair(out: &mut [u8], word: &[u8], a: usize, second: &[u8], b: usize) -> u
 
 // Puts "i j k".
 pub fn put_place(out: &mut [u8], at: usize, i: usize, j: usize, k: usize) -> usize
-    requires { (i < 64) × (j < 64) × (k < 64) × (at + lineMost ≤ length out.old) }
-    ensures { Puts out.old at (placeLine i j k) out.new result × (result ≤ length out.old) }
+    requires { (i < 64) × (j < 64) × (k < 64) × (at + line_most ≤ length out.old) }
+    ensures { Puts out.old at (place_line i j k) out.new result × (result ≤ length out.old) }
 {
     let behind_i = put_number(out, at, i);
     let second = put_byte(out, behind_i, 32);
@@ -89,7 +89,7 @@ fn read(numbers: &[i32], i: usize) -> i64
 // Puts a number in base ten, with a minus sign where it is negative.
 fn put_signed(out: &mut [u8], at: usize, z: i64) -> usize
     requires { Within (2 ^ 31) z × (at + 11 ≤ length out.old) }
-    ensures { Puts out.old at (signedDecimal z) out.new result × (result ≤ at + 11) }
+    ensures { Puts out.old at (signed_decimal z) out.new result × (result ≤ at + 11) }
 {
     let size = integers::to_index(integers::magnitude(z));
     if z < 0 {

@@ -15,15 +15,15 @@ use Rattle.integers.proofs.Truth.{none}
 use Rattle.grid.specs.declared.Grid.{Grid}
 use Rattle.grid.specs.declared.BoxRange.{BoxRange}
 use Rattle.grid.specs.declared.CellRange.{CellRange}
-use Rattle.grid.specs.Grid.{cellCount}
+use Rattle.grid.specs.Grid.{cell_count}
 use Rattle.grid.specs.Range.{in_range}
-use Rattle.grid.specs.Cells.{cellNumber, xOfCell, yOfCell, zOfCell}
+use Rattle.grid.specs.Cells.{cell_number, x_of_cell, y_of_cell, z_of_cell}
 use Rattle.grid.proofs.Numbers.{number_lt, number-of, x-of, y_of, z-of}
-use Rattle.map.specs.Map.{isFilled}
+use Rattle.map.specs.Map.{is_filled}
 use Rattle.runs.specs.Run.{Narrows}
 use Rattle.runs.proofs.Narrow.{in-range, range-in}
 use Rattle.legs.specs.declared.Slabs.{Slabs}
-use Rattle.legs.specs.Slab.{rowHolds, cellHolds}
+use Rattle.legs.specs.Slab.{row_holds, cell_holds}
 use Rattle.touch.specs.declared.Found.TheVariants.{Cell, Nothing}
 use Rattle.touch.specs.Inner.{in_block, wanted, Lowest, InGrid}
 
@@ -56,7 +56,7 @@ row_in {y} {r} {p} n j h =
 module _ (s : List ℕ) (nx ny : ℕ) (f : Slabs) (x y z : CellRange) where
   -- Cell (i, j, k) of the block is none that is looked for.
   abbrev pub No : (i j k : ℕ) → Type 0
-  No i j k = In x i → In y j → In z k → isFilled s (cellNumber nx ny i j k) ≡ true → rowHolds f k j ≡ true → cellHolds f i j k ≡ true → ⊥
+  No i j k = In x i → In y j → In z k → is_filled s (cell_number nx ny i j k) ≡ true → row_holds f k j ≡ true → cell_holds f i j k ≡ true → ⊥
 
   abbrev pub Layers : ℕ → Type 0
   Layers k = (c : ℕ) → c < k → (a b : ℕ) → No a b c
@@ -68,43 +68,43 @@ module _ (s : List ℕ) (nx ny : ℕ) (f : Slabs) (x y z : CellRange) where
   Cells k j i = (a : ℕ) → a < i → No a j k
 
   -- a row that is not left has no cell that is looked for
-  pub no_row : {k : ℕ} {r : CellRange} → Narrows y (rowHolds f k) r → (j : ℕ) → (In r j → ⊥) → (a : ℕ) → No a j k
+  pub no_row : {k : ℕ} {r : CellRange} → Narrows y (row_holds f k) r → (j : ℕ) → (In r j → ⊥) → (a : ℕ) → No a j k
   no_row {k} {r} n j out a ha hj hk filled row cell =
-      out (in-range r j (n.exact j ∙ (and-eq-true_iff (in_range y j) (rowHolds f k j)).1 (range-in y j hj.0 hj.1, row)))
+      out (in-range r j (n.exact j ∙ (and-eq-true_iff (in_range y j) (row_holds f k j)).1 (range-in y j hj.0 hj.1, row)))
 
 -- ---- the grid's cells
 module _ (s : List ℕ) (g : Grid) (f : Slabs) (b : BoxRange) (in-grid : InGrid g b) where
   abbrev test : ℕ → Bool
-  test = wanted (isFilled s) g f b
+  test = wanted (is_filled s) g f b
 
   -- of the cells looked for
-  abbrev none-at : (i j k : ℕ) → Type 0
-  none-at = No s g.nx g.ny f b.x b.y b.z
+  abbrev NoneAt : (i j k : ℕ) → Type 0
+  NoneAt = No s g.nx g.ny f b.x b.y b.z
 
   -- a cell of the block and of the slabs, by its parts
-  pub parts : (i j k : ℕ) → in_block f b i j k ≡ true → In b.x i × In b.y j × In b.z k × (rowHolds f k j ≡ true) × (cellHolds f i j k ≡ true)
+  pub parts : (i j k : ℕ) → in_block f b i j k ≡ true → In b.x i × In b.y j × In b.z k × (row_holds f k j ≡ true) × (cell_holds f i j k ≡ true)
   parts i j k e =
-      let (rows, cell) = (and-eq-true_iff (in_range b.x i && in_range b.y j && in_range b.z k && rowHolds f k j) (cellHolds f i j k)).0 e in
-      let (box, row) = (and-eq-true_iff (in_range b.x i && in_range b.y j && in_range b.z k) (rowHolds f k j)).0 rows in
+      let (rows, cell) = (and-eq-true_iff (in_range b.x i && in_range b.y j && in_range b.z k && row_holds f k j) (cell_holds f i j k)).0 e in
+      let (box, row) = (and-eq-true_iff (in_range b.x i && in_range b.y j && in_range b.z k) (row_holds f k j)).0 rows in
       let (xy, ez) = (and-eq-true_iff (in_range b.x i && in_range b.y j) (in_range b.z k)).0 box in
       let (ex, ey) = (and-eq-true_iff (in_range b.x i) (in_range b.y j)).0 xy in
       (in-range b.x i ex, in-range b.y j ey, in-range b.z k ez, row, cell)
 
-  no_cell : (n : ℕ) → none-at (xOfCell g.nx n) (yOfCell g.nx g.ny n) (zOfCell g.nx g.ny n) → test n ≡ false
+  no_cell : (n : ℕ) → NoneAt (x_of_cell g.nx n) (y_of_cell g.nx g.ny n) (z_of_cell g.nx g.ny n) → test n ≡ false
   no_cell n h =
-      none (isFilled s n) (in_block f b (xOfCell g.nx n) (yOfCell g.nx g.ny n) (zOfCell g.nx g.ny n))
-      (λ e t. let w = parts _ _ _ t in h w.0 w.1 w.2 (ap (isFilled s) (number-of g.nx g.ny n) ∙ e) w.3 w.4)
+      none (is_filled s n) (in_block f b (x_of_cell g.nx n) (y_of_cell g.nx g.ny n) (z_of_cell g.nx g.ny n))
+      (λ e t. let w = parts _ _ _ t in h w.0 w.1 w.2 (ap (is_filled s) (number-of g.nx g.ny n) ∙ e) w.3 w.4)
 
-  pub found_none : (k : ℕ) → b.z.end ≤ k → Layers s g.nx g.ny f b.x b.y b.z k → Lowest test (cellCount g) Nothing
-  found_none k far layers n l = no_cell n (λ hx hy hz. layers (zOfCell g.nx g.ny n) (omega arith) (xOfCell g.nx n) (yOfCell g.nx g.ny n) hx hy hz)
+  pub found_none : (k : ℕ) → b.z.end ≤ k → Layers s g.nx g.ny f b.x b.y b.z k → Lowest test (cell_count g) Nothing
+  found_none k far layers n l = no_cell n (λ hx hy hz. layers (z_of_cell g.nx g.ny n) (omega arith) (x_of_cell g.nx n) (y_of_cell g.nx g.ny n) hx hy hz)
 
-  pub found_at : (i j k : ℕ) → In b.x i → In b.y j → In b.z k → isFilled s (cellNumber g.nx g.ny i j k) ≡ true
-      → rowHolds f k j ≡ true → cellHolds f i j k ≡ true → Layers s g.nx g.ny f b.x b.y b.z k → Rows s g.nx g.ny f b.x b.y b.z k j
-      → Cells s g.nx g.ny f b.x b.y b.z k j i → Lowest test (cellCount g) (Cell (cellNumber g.nx g.ny i j k))
+  pub found_at : (i j k : ℕ) → In b.x i → In b.y j → In b.z k → is_filled s (cell_number g.nx g.ny i j k) ≡ true
+      → row_holds f k j ≡ true → cell_holds f i j k ≡ true → Layers s g.nx g.ny f b.x b.y b.z k → Rows s g.nx g.ny f b.x b.y b.z k j
+      → Cells s g.nx g.ny f b.x b.y b.z k j i → Lowest test (cell_count g) (Cell (cell_number g.nx g.ny i j k))
   found_at i j k hx hy hz filled row cell layers rows cells = (
     number_lt g.nx g.ny g.nz i j k li lj lk,
     rw (x-of g.nx g.ny i j k li, y_of g.nx g.ny i j k li lj, z-of g.nx g.ny i j k li lj, filled, range-in b.x i hx.0 hx.1, range-in b.y j hy.0 hy.1, range-in b.z k hz.0 hz.1, row, cell),
-    λ n l. no_cell n (before (xOfCell g.nx n) (yOfCell g.nx g.ny n) (zOfCell g.nx g.ny n) (omega (arith, number-of g.nx g.ny n))),
+    λ n l. no_cell n (before (x_of_cell g.nx n) (y_of_cell g.nx g.ny n) (z_of_cell g.nx g.ny n) (omega (arith, number-of g.nx g.ny n))),
   )
     where
       li : i < g.nx
@@ -117,7 +117,7 @@ module _ (s : List ℕ) (g : Grid) (f : Slabs) (b : BoxRange) (in-grid : InGrid 
       lk = omega (arith, in-grid.z)
 
       -- a cell of a lower number is in a layer before k, in a row before j of layer k, or before cell i of row j
-      before : (a d c : ℕ) → suc a + g.nx * (d + g.ny * c) ≤ i + g.nx * (j + g.ny * k) → none-at a d c
+      before : (a d c : ℕ) → suc a + g.nx * (d + g.ny * c) ≤ i + g.nx * (j + g.ny * k) → NoneAt a d c
       before a d c l =
           ⊎_elim
           (λ q. ⊎_elim (λ u. layers c u a d) (λ u. rw u.0 (rows d u.1 a)) (digits g.ny (suc d) c j k lj (omega arith)))

@@ -2,20 +2,20 @@
 use Rattle.std.specs.Prelude.{Bool, true, false, ◌&&◌, List, ◌≡◌, ℕ, ◌+◌, ◌<◌, ◌≤◌}
 use Rattle.grid.specs.declared.Grid.{Grid}
 use Rattle.grid.specs.declared.BoxRange.{BoxRange}
-use Rattle.grid.specs.Cells.{xOfCell, yOfCell, zOfCell}
+use Rattle.grid.specs.Cells.{x_of_cell, y_of_cell, z_of_cell}
 use Rattle.grid.specs.Range.{in_range}
-use Rattle.map.specs.Map.{isFilled}
+use Rattle.map.specs.Map.{is_filled}
 use Rattle.legs.specs.declared.Slabs.{Slabs}
-use Rattle.legs.specs.Slab.{rowHolds, cellHolds}
+use Rattle.legs.specs.Slab.{row_holds, cell_holds}
 use Rattle.touch.specs.declared.Found.{Found}
 use Rattle.touch.specs.declared.Found.TheVariants.{Cell, Nothing}
 
 -- Cell (i, j, k) lies in the block and in the slabs; cell n is looked for: it is filled, and does.
 abbrev pub in_block : Slabs → BoxRange → (i j k : ℕ) → Bool
-in_block s b i j k = in_range b.x i && in_range b.y j && in_range b.z k && rowHolds s k j && cellHolds s i j k
+in_block s b i j k = in_range b.x i && in_range b.y j && in_range b.z k && row_holds s k j && cell_holds s i j k
 
 abbrev pub wanted : (filled : ℕ → Bool) → Grid → Slabs → BoxRange → ℕ → Bool
-wanted filled g s b n = filled n && in_block s b (xOfCell g.nx n) (yOfCell g.nx g.ny n) (zOfCell g.nx g.ny n)
+wanted filled g s b n = filled n && in_block s b (x_of_cell g.nx n) (y_of_cell g.nx g.ny n) (z_of_cell g.nx g.ny n)
 
 -- What is found is the lowest number below c with the property; or nothing, where there is none.
 abbrev pub Lowest : (ℕ → Bool) → ℕ → Found → Type 0
@@ -34,5 +34,5 @@ pub record InGrid (g : Grid) (b : BoxRange) : Type 0 where
 pub record NextCell (map : List ℕ) (row first end r : ℕ) : Type 0 where
   pub from : first ≤ r
   pub to : r ≤ end
-  pub skipped : (i : ℕ) → i < r → first ≤ i → isFilled map (row + i) ≡ false
-  pub stopped : r < end → isFilled map (row + r) ≡ true
+  pub skipped : (i : ℕ) → i < r → first ≤ i → is_filled map (row + i) ≡ false
+  pub stopped : r < end → is_filled map (row + r) ≡ true

@@ -1,8 +1,8 @@
 // The lowest filled cell of a block that lies in a leg's slabs: whether a leg is blocked.
 ghost use Rattle.std.specs.Prelude.{◌+◌, ◌*◌, ◌≤◌, length};
-ghost use Rattle.grid.specs.Grid.{cellCount};
+ghost use Rattle.grid.specs.Grid.{cell_count};
 ghost use Rattle.grid.specs.Usable.{BoundedGrid};
-ghost use Rattle.map.specs.Map.{mapLength, isFilled};
+ghost use Rattle.map.specs.Map.{map_length, is_filled};
 ghost use Rattle.legs.specs.Slab.{BoundedSlabs};
 ghost use Rattle.touch.specs.Inner.{wanted, Lowest, InGrid, NextCell};
 
@@ -19,8 +19,8 @@ pub enum Found {
 // The lowest filled cell of the block that lies in the leg's slabs: by layers, rows and cells. Of a layer's rows only
 // those in the slab in YZ are looked at; in a row, cells that are not filled are skipped before their slabs are asked.
 pub fn search(g: Grid, map: &[u8], slabs: Slabs, block: BoxRange) -> Found
-    requires { BoundedGrid g × (mapLength (cellCount g) ≤ length map.now) × BoundedSlabs slabs × InGrid g block }
-    ensures { Lowest (wanted (isFilled map.now) g slabs block) (cellCount g) result }
+    requires { BoundedGrid g × (map_length (cell_count g) ≤ length map.now) × BoundedSlabs slabs × InGrid g block }
+    ensures { Lowest (wanted (is_filled map.now) g slabs block) (cell_count g) result }
 {
     let x = block.x;
     let y = block.y;

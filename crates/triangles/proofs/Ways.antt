@@ -17,23 +17,23 @@ use Rattle.integers.proofs.Omega.{le-true}
 use Rattle.integers.proofs.Laws.{<→≤}
 use Rattle.geometry.specs.declared.Triangle.{Triangle}
 use Rattle.geometry.specs.Bounds.{BoundedTriangle}
-use Rattle.geometry.specs.Geometry.{Axis, xOf, yOf, z_of}
+use Rattle.geometry.specs.Geometry.{Axis, x_of, y_of, z_of}
 use Rattle.grid.specs.declared.Grid.{Grid}
 use Rattle.grid.specs.declared.Lattice.{Lattice}
 use Rattle.grid.specs.declared.BoxRange.{BoxRange}
 use Rattle.grid.specs.declared.CellRange.{CellRange}
-use Rattle.grid.specs.Grid.{cellCount}
+use Rattle.grid.specs.Grid.{cell_count}
 use Rattle.overlap.specs.Rule.{least3, greatest3}
-use Rattle.overlap.specs.Cells.{overlapsCell}
+use Rattle.overlap.specs.Cells.{overlaps_cell}
 use Rattle.ranges.specs.Range.{PicksBox}
 use Rattle.forms.specs.Triangle.{FormsFor}
-use Rattle.column_rule.specs.Turn.{turnPoint, turnTriangle}
-use Rattle.columns.specs.Draw.{Draws, oneColumn, inRun, rectangle}
-use Rattle.columns.specs.Column.{cellPasses}
+use Rattle.column_rule.specs.Turn.{turn_point, turn_triangle}
+use Rattle.columns.specs.Draw.{Draws, one_column, in_run, rectangle}
+use Rattle.columns.specs.Column.{cell_passes}
 use Rattle.placed.specs.declared.Placed.{Placed}
-use Rattle.placed.specs.Numbering.{stridesOf, turnStrides}
-use Rattle.placed.specs.Box.{stays, rowAxis}
-use Rattle.placed.specs.Placed.{placedIn, turnPlaced}
+use Rattle.placed.specs.Numbering.{strides_of, turn_strides}
+use Rattle.placed.specs.Box.{stays, row_axis}
+use Rattle.placed.specs.Placed.{placed_in, turn_placed}
 use Rattle.placed.proofs.Rows.{along-x, along-y, along-z}
 use Rattle.placed.proofs.Measured.{measured-within}
 use Rattle.triangles.specs.Add.{AddsTriangle, Fillable, FillableBox}
@@ -43,11 +43,11 @@ use Rattle.triangles.proofs.Adding.{view-z, adds-columns, adds-row}
 
 -- ---- columns of a placed triangle
 pub placed-columns : (p : Placed) (s d : ℤ) (forms : List ℤ) {old new : List ℕ} → pos 0 ≤ℤ d → FormsFor p.t s d forms
-    → Draws p.s (rectangle p.b.x p.b.y) (cellPasses forms p.b.z) old new → PlacedAdds p s d old new
+    → Draws p.s (rectangle p.b.x p.b.y) (cell_passes forms p.b.z) old new → PlacedAdds p s d old new
 placed-columns p s d forms thick made draws t o cells wanted v e = adds-columns v thick forms (subst (λ q. FormsFor q s d forms) (sym e) made) draws
 
 -- ---- the axes taken in turn
-pub ready_turned : {p : Placed} {s d : ℤ} {bytes : ℕ} → PlacedReady p s d bytes → PlacedReady (turnPlaced p) s d bytes
+pub ready_turned : {p : Placed} {s d : ℤ} {bytes : ℕ} → PlacedReady p s d bytes → PlacedReady (turn_placed p) s d bytes
 ready_turned {p} {s} {d} {bytes} r =
     let w = r.within in
     record {
@@ -56,7 +56,7 @@ ready_turned {p} {s} {d} {bytes} r =
         v1 = record { x = w.v1.y; y = w.v1.z; z = w.v1.x };
         v2 = record { x = w.v2.y; y = w.v2.z; z = w.v2.x };
       };
-      normal-is = ap turnPoint r.normal-is;
+      normal-is = ap turn_point r.normal-is;
       step_in = r.step_in;
       forward = r.forward;
       extent-in = r.extent-in;
@@ -68,16 +68,16 @@ ready_turned {p} {s} {d} {bytes} r =
       z = r.x;
     }
 
-pub adds-turned : (p : Placed) {s d : ℤ} {old new : List ℕ} → PlacedAdds (turnPlaced p) s d old new → PlacedAdds p s d old new
-adds-turned p h t o cells wanted v e = h (turnTriangle t) (turnPoint o) cells wanted (turn-view v) (ap turnTriangle e)
+pub adds-turned : (p : Placed) {s d : ℤ} {old new : List ℕ} → PlacedAdds (turn_placed p) s d old new → PlacedAdds p s d old new
+adds-turned p h t o cells wanted v e = h (turn_triangle t) (turn_point o) cells wanted (turn-view v) (ap turn_triangle e)
 
 module _ (g : Grid) (l : Lattice) {bytes : ℕ} (ready : Fillable g l bytes) where
-  pub view : {t : Triangle} {b : BoxRange} → PicksBox t l g.nx g.ny g.nz b → View (stridesOf g) t l b (cellCount g) (overlapsCell g l t)
+  pub view : {t : Triangle} {b : BoxRange} → PicksBox t l g.nx g.ny g.nz b → View (strides_of g) t l b (cell_count g) (overlaps_cell g l t)
   view {t} p = view-z g ready.x.some ready.y.some ready.x.most ready.y.most ready.z.most t l p
 
   -- ---- placed in the lattice
   module _ {t : Triangle} {b : BoxRange} (picks : PicksBox t l g.nx g.ny g.nz b) where
-    pub placed-ready : FillableBox g l bytes b → BoundedTriangle t → PlacedReady (placedIn g l b t) l.step l.extent bytes
+    pub placed-ready : FillableBox g l bytes b → BoundedTriangle t → PlacedReady (placed_in g l b t) l.step l.extent bytes
     placed-ready r h = record {
       within = measured-within ready.boxes.first h;
       normal-is = refl;
@@ -92,8 +92,8 @@ module _ (g : Grid) (l : Lattice) {bytes : ℕ} (ready : Fillable g l bytes) whe
       z = r.z;
     }
 
-    pub placed-adds : {old new : List ℕ} → PlacedAdds (placedIn g l b t) l.step l.extent old new → AddsTriangle g l t old new
-    placed-adds h = h t l.first (cellCount g) (overlapsCell g l t) (view picks) refl
+    pub placed-adds : {old new : List ℕ} → PlacedAdds (placed_in g l b t) l.step l.extent old new → AddsTriangle g l t old new
+    placed-adds h = h t l.first (cell_count g) (overlaps_cell g l t) (view picks) refl
 
   -- ---- a row
   -- on an axis, the range has one cell, and the coordinates lie within its box
@@ -107,34 +107,34 @@ module _ (g : Grid) (l : Lattice) {bytes : ℕ} (ready : Fillable g l bytes) whe
 
   module _ {t : Triangle} {b : BoxRange} (p : PicksBox t l g.nx g.ny g.nz b) where
     abbrev in-x : Bool
-    in-x = stays l t b.x xOf
+    in-x = stays l t b.x x_of
 
     abbrev in-y : Bool
-    in-y = stays l t b.y yOf
+    in-y = stays l t b.y y_of
 
     abbrev in-z : Bool
     in-z = stays l t b.z z_of
 
-    pub row-z : {r : ℕ} {old new : List ℕ} → r ≡ rowAxis l b t → r ≡ 3
-        → Draws (stridesOf g) (oneColumn b.x.first b.y.first) (inRun b.z) old new → AddsTriangle g l t old new
+    pub row-z : {r : ℕ} {old new : List ℕ} → r ≡ row_axis l b t → r ≡ 3
+        → Draws (strides_of g) (one_column b.x.first b.y.first) (in_run b.z) old new → AddsTriangle g l t old new
     row-z h e =
         let (u, v) = along-z in-x in-y in-z (sym h ∙ e) in
-        let (eu, lu, hu) = on-axis t b.x xOf u in
-        let (ev, lv, hv) = on-axis t b.y yOf v in
+        let (eu, lu, hu) = on-axis t b.x x_of u in
+        let (ev, lv, hv) = on-axis t b.y y_of v in
         adds-row (view p) ready.boxes.thick eu ev (record { from = lu; to = hu }) (record { from = lv; to = hv })
 
-    pub row-x : {r : ℕ} {old new : List ℕ} → r ≡ rowAxis l b t → r ≡ 1
-        → Draws (turnStrides (stridesOf g)) (oneColumn b.y.first b.z.first) (inRun b.x) old new → AddsTriangle g l t old new
+    pub row-x : {r : ℕ} {old new : List ℕ} → r ≡ row_axis l b t → r ≡ 1
+        → Draws (turn_strides (strides_of g)) (one_column b.y.first b.z.first) (in_run b.x) old new → AddsTriangle g l t old new
     row-x h e =
         let (u, v) = along-x in-x in-y in-z (sym h ∙ e) in
-        let (eu, lu, hu) = on-axis t b.y yOf u in
+        let (eu, lu, hu) = on-axis t b.y y_of u in
         let (ev, lv, hv) = on-axis t b.z z_of v in
         adds-row (turn-view (view p)) ready.boxes.thick eu ev (record { from = lu; to = hu }) (record { from = lv; to = hv })
 
-    pub row-y : {r : ℕ} {old new : List ℕ} → r ≡ rowAxis l b t → r ≡ 2
-        → Draws (turnStrides (turnStrides (stridesOf g))) (oneColumn b.z.first b.x.first) (inRun b.y) old new → AddsTriangle g l t old new
+    pub row-y : {r : ℕ} {old new : List ℕ} → r ≡ row_axis l b t → r ≡ 2
+        → Draws (turn_strides (turn_strides (strides_of g))) (one_column b.z.first b.x.first) (in_run b.y) old new → AddsTriangle g l t old new
     row-y h e =
         let (u, v) = along-y in-x in-y in-z (sym h ∙ e) in
         let (eu, lu, hu) = on-axis t b.z z_of u in
-        let (ev, lv, hv) = on-axis t b.x xOf v in
+        let (ev, lv, hv) = on-axis t b.x x_of v in
         adds-row (turn-view (turn-view (view p))) ready.boxes.thick eu ev (record { from = lu; to = hu }) (record { from = lv; to = hv })

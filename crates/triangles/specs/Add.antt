@@ -4,19 +4,19 @@ use Rattle.geometry.specs.declared.Triangle.{Triangle}
 use Rattle.grid.specs.declared.Grid.{Grid}
 use Rattle.grid.specs.declared.Lattice.{Lattice}
 use Rattle.grid.specs.declared.BoxRange.{BoxRange}
-use Rattle.grid.specs.Grid.{cellCount}
+use Rattle.grid.specs.Grid.{cell_count}
 use Rattle.grid.specs.Usable.{OneTo64, UsableLattice}
-use Rattle.overlap.specs.Cells.{overlapsCell}
+use Rattle.overlap.specs.Cells.{overlaps_cell}
 use Rattle.blocks.specs.Block.{SomeCells}
-use Rattle.map.specs.Map.{isFilled}
+use Rattle.map.specs.Map.{is_filled}
 
 -- `new` is `old` with those of the first cells filled that have the property, and every other cell as it was.
 pub record Adds (cells : ℕ) (p : ℕ → Bool) (old new : List ℕ) : Type 0 where
   pub len : length new ≡ length old
-  pub each : (n : ℕ) → isFilled new n ≡ (isFilled old n || (ltb n cells && p n))
+  pub each : (n : ℕ) → is_filled new n ≡ (is_filled old n || (ltb n cells && p n))
 
 abbrev pub AddsTriangle : Grid → Lattice → Triangle → (old new : List ℕ) → Type 0
-AddsTriangle g l t = Adds (cellCount g) (overlapsCell g l t)
+AddsTriangle g l t = Adds (cell_count g) (overlaps_cell g l t)
 
 -- A grid and its cells' boxes that a triangle can be filled into: from 1 to 64 cells a side, small numbers, and room in a map of so many bytes.
 pub record Fillable (g : Grid) (l : Lattice) (bytes : ℕ) : Type 0 where
@@ -24,7 +24,7 @@ pub record Fillable (g : Grid) (l : Lattice) (bytes : ℕ) : Type 0 where
   pub y : OneTo64 g.ny
   pub z : OneTo64 g.nz
   pub boxes : UsableLattice l
-  pub room : cellCount g ≤ 8 * bytes
+  pub room : cell_count g ≤ 8 * bytes
 
 -- The same, and a box of cells that is not empty.
 pub record FillableBox (g : Grid) (l : Lattice) (bytes : ℕ) (b : BoxRange) : Type 0 where

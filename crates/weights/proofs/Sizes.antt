@@ -12,41 +12,41 @@ use Rattle.integers.specs.Within.{Within, Withins}
 use Rattle.integers.proofs.Bounds.{within-sub, within-mul, within-weaken}
 use Rattle.geometry.specs.declared.Point.{Point}
 use Rattle.geometry.specs.declared.Triangle.{Triangle}
-use Rattle.geometry.specs.Bounds.{coordinateMax, offsetMax, differenceMax, normalMax, extentMax, PointWithin, BoundedPoint, BoundedTriangle}
-use Rattle.geometry.specs.Geometry.{cube, Axis, xOf, yOf, z_of}
+use Rattle.geometry.specs.Bounds.{coordinate_max, offset_max, difference_max, normal_max, extent_max, PointWithin, BoundedPoint, BoundedTriangle}
+use Rattle.geometry.specs.Geometry.{cube, Axis, x_of, y_of, z_of}
 use Rattle.candidates.specs.Candidates.{rows, candidate}
 use Rattle.candidates.proofs.Rows.{at_row}
-use Rattle.weights.specs.Inner.{sidesOf, sideBounds, BoundedRows}
+use Rattle.weights.specs.Inner.{sides_of, side_bounds, BoundedRows}
 
 -- ---- the sides on an axis
-module _ {a b c p e : ℤ} (h : Withins sideBounds (a ∷ b ∷ c ∷ p ∷ e ∷ [])) where
-  above : {x : ℤ} → Within coordinateMax x → Within offsetMax (x -ℤ p)
+module _ {a b c p e : ℤ} (h : Withins side_bounds (a ∷ b ∷ c ∷ p ∷ e ∷ [])) where
+  above : {x : ℤ} → Within coordinate_max x → Within offset_max (x -ℤ p)
   above hx = within-sub hx h.1.1.1.0
 
-  low : {x : ℤ} → Within coordinateMax x → Within differenceMax (x -ℤ p)
+  low : {x : ℤ} → Within coordinate_max x → Within difference_max (x -ℤ p)
   low hx = within-weaken (lit≤ tt) (above hx)
 
-  high : {x : ℤ} → Within coordinateMax x → Within differenceMax (e -ℤ (x -ℤ p))
+  high : {x : ℤ} → Within coordinate_max x → Within difference_max (e -ℤ (x -ℤ p))
   high hx = within-weaken (lit≤ tt) (within-sub h.1.1.1.1.0 (above hx))
 
-  low-bounded : PointWithin differenceMax (sidesOf a b c p e).low
+  low-bounded : PointWithin difference_max (sides_of a b c p e).low
   low-bounded = record { x = low h.0; y = low h.1.0; z = low h.1.1.0 }
 
-  high-bounded : PointWithin differenceMax (sidesOf a b c p e).high
+  high-bounded : PointWithin difference_max (sides_of a b c p e).high
   high-bounded = record { x = high h.0; y = high h.1.0; z = high h.1.1.0 }
 
 -- ---- all rows
-unit-bounded : {r : Point} → nat_abs r.x + nat_abs r.y + nat_abs r.z ≤ 1 → PointWithin differenceMax r
+unit-bounded : {r : Point} → nat_abs r.x + nat_abs r.y + nat_abs r.z ≤ 1 → PointWithin difference_max r
 unit-bounded u = record { x = record { within = omega arith }; y = record { within = omega arith }; z = record { within = omega arith } }
 
-module _ {t : Triangle} {p : Point} {e : ℤ} (h : BoundedTriangle t) (k : BoundedPoint p) (l : Within extentMax e) where
+module _ {t : Triangle} {p : Point} {e : ℤ} (h : BoundedTriangle t) (k : BoundedPoint p) (l : Within extent_max e) where
   abbrev On : Axis → Type 0
-  On a = Withins sideBounds (a t.v0 ∷ a t.v1 ∷ a t.v2 ∷ a p ∷ e ∷ [])
+  On a = Withins side_bounds (a t.v0 ∷ a t.v1 ∷ a t.v2 ∷ a p ∷ e ∷ [])
 
-  pub on-x : On xOf
+  pub on-x : On x_of
   on-x = (h.v0.x, (h.v1.x, (h.v2.x, (k.x, (l, tt)))))
 
-  pub on-y : On yOf
+  pub on-y : On y_of
   on-y = (h.v0.y, (h.v1.y, (h.v2.y, (k.y, (l, tt)))))
 
   pub on-z : On z_of
@@ -54,7 +54,7 @@ module _ {t : Triangle} {p : Point} {e : ℤ} (h : BoundedTriangle t) (k : Bound
 
   pub rows-bounded : BoundedRows (rows t p (cube e))
   rows-bounded =
-      at_row (PointWithin differenceMax) (rows t p (cube e)) (unit-bounded (lit≤ tt)) (
+      at_row (PointWithin difference_max) (rows t p (cube e)) (unit-bounded (lit≤ tt)) (
         unit-bounded (lit≤ tt),
         (
           unit-bounded (lit≤ tt),
@@ -65,7 +65,7 @@ module _ {t : Triangle} {p : Point} {e : ℤ} (h : BoundedTriangle t) (k : Bound
         ),
       )
 
-pub candidate-bounded : (rs : List Point) → BoundedRows rs → (m : ℕ) → PointWithin normalMax (candidate rs m)
+pub candidate-bounded : (rs : List Point) → BoundedRows rs → (m : ℕ) → PointWithin normal_max (candidate rs m)
 candidate-bounded rs h m =
     let a = h (m % 9) in
     let b = h (m / 9) in

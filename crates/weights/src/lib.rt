@@ -1,12 +1,12 @@
 // Weights by which a triangle reaches a box: small whole numbers that anyone can check.
 ghost use Rattle.std.specs.Prelude.{[], ◌∷◌, ◌≡◌, ℕ, ◌+◌, ◌*◌, ◌^◌, ◌<◌};
 ghost use Rattle.integers.specs.Within.{Within, Withins};
-ghost use Rattle.geometry.specs.Bounds.{extentMax, normalMax, differenceMax, PointWithin, TriangleWithin, BoundedPoint, BoundedTriangle};
+ghost use Rattle.geometry.specs.Bounds.{extent_max, normal_max, difference_max, PointWithin, TriangleWithin, BoundedPoint, BoundedTriangle};
 ghost use Rattle.geometry.specs.Geometry.{cube, dot};
 ghost use Rattle.reach.specs.Reaches.{ReachesBox};
 ghost use Rattle.candidates.specs.Candidates.{rows, candidate};
 ghost use Rattle.weights.specs.Weights.{Weighs};
-ghost use Rattle.weights.specs.Inner.{sideBounds, sidesOf, BoundedRows, Tells};
+ghost use Rattle.weights.specs.Inner.{side_bounds, sides_of, BoundedRows, Tells};
 
 use geometry::{Point, Triangle};
 
@@ -27,8 +27,8 @@ struct Sides {
 
 // The sides of a box that goes from p to p + extent on an axis, for corners at a, b and c there.
 fn sides_on(a: i64, b: i64, c: i64, p: i64, extent: i64) -> Sides
-    requires { Withins sideBounds (a ∷ b ∷ c ∷ p ∷ extent ∷ []) }
-    ensures { result ≡ sidesOf a b c p extent }
+    requires { Withins side_bounds (a ∷ b ∷ c ∷ p ∷ extent ∷ []) }
+    ensures { result ≡ sides_of a b c p extent }
 {
     let x = a - p;
     let y = b - p;
@@ -45,7 +45,7 @@ fn sides_on(a: i64, b: i64, c: i64, p: i64, extent: i64) -> Sides
 
 // The nine rows of a triangle and a cube: the weights themselves, the low sides and the high sides.
 fn rows(t: Triangle, p: Point, extent: i64) -> [Point; 9]
-    requires { BoundedTriangle t × BoundedPoint p × Within extentMax extent }
+    requires { BoundedTriangle t × BoundedPoint p × Within extent_max extent }
     ensures { result ≡ rows t p (cube extent) }
 {
     let x = sides_on(t.v0.x, t.v1.x, t.v2.x, p.x, extent);
@@ -92,7 +92,7 @@ fn candidate(rows: [Point; 9], m: usize) -> Point
 
 // The value of a row on weights: their dot product.
 fn value(r: Point, w: Point) -> i64
-    requires { PointWithin differenceMax r × PointWithin normalMax w }
+    requires { PointWithin difference_max r × PointWithin normal_max w }
     ensures { result ≡ dot r w }
 {
     r.x * w.x + r.y * w.y + r.z * w.z
@@ -100,7 +100,7 @@ fn value(r: Point, w: Point) -> i64
 
 // Do the weights fit: is no row negative on them, and their total positive?
 fn fits(rows: [Point; 9], w: Point) -> bool
-    requires { BoundedRows rows × PointWithin normalMax w }
+    requires { BoundedRows rows × PointWithin normal_max w }
     ensures { Tells rows w result }
 {
     let mut k: usize = 0;
@@ -115,7 +115,7 @@ fn fits(rows: [Point; 9], w: Point) -> bool
 
 // Weights that show that a triangle reaches a cube: the first candidate that fits. One of the 81 does.
 pub fn weigh(t: Triangle, p: Point, extent: i64) -> Weights
-    requires { BoundedTriangle t × BoundedPoint p × Within extentMax extent × ReachesBox t p (cube extent) }
+    requires { BoundedTriangle t × BoundedPoint p × Within extent_max extent × ReachesBox t p (cube extent) }
     ensures { (k : ℕ) → TriangleWithin (2 ^ k) t → Weighs (2 ^ (2 * k + 4)) t p (cube extent) result }
 {
     let rows = rows(t, p, extent);

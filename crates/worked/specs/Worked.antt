@@ -7,9 +7,9 @@ use Rattle.geometry.specs.declared.Point.{Point}
 use Rattle.geometry.specs.Geometry.{point, triangle}
 use Rattle.layout.specs.declared.Header.{Header}
 use Rattle.refusal.specs.Limit.{Answer, gives}
-use Rattle.frame.specs.Questions.{Contents, withRecord, reading}
-use Rattle.fill.specs.Fill.{filling, filledBytes}
-use Rattle.demand.specs.Route.{Finding, free, blocked, routeAnswer}
+use Rattle.frame.specs.Questions.{Contents, with_record, reading}
+use Rattle.fill.specs.Fill.{filling, filled_bytes}
+use Rattle.demand.specs.Route.{Finding, free, blocked, route_answer}
 
 -- A route of two points, and what a test of it says.
 pub record RouteRow : Type 0 where
@@ -45,7 +45,7 @@ row l v0 v1 v2 b n m rs =
     record {
       letter = l;
       bytes = b;
-      contents = gives (withRecord values (record { kind = 0; triangle = triangle v0 v1 v2 }));
+      contents = gives (with_record values (record { kind = 0; triangle = triangle v0 v1 v2 }));
       count = gives n;
       map = m ∷ 0x55 ∷ [];
       routes = rs;
@@ -80,9 +80,9 @@ abbrev pub letters : List Row → List String
 letters [] = []
 letters (r ∷ rs) = r.letter ∷ letters rs
 
-abbrev pub routeCounts : List Row → List ℕ
-routeCounts [] = []
-routeCounts (r ∷ rs) = length r.routes ∷ routeCounts rs
+abbrev pub route_counts : List Row → List ℕ
+route_counts [] = []
+route_counts (r ∷ rs) = length r.routes ∷ route_counts rs
 
 -- The buffer that a fill is lent.
 abbrev buffer : List ℕ
@@ -90,9 +90,9 @@ buffer = 0xaa ∷ 0x55 ∷ []
 
 -- The rows as the definitions of the calls give them: of each, the letter, the record's bytes and the routes' numbers are taken, and
 -- everything else is computed.
-abbrev routesBy : (file map : List ℕ) → List RouteRow → List RouteRow
-routesBy s m [] = []
-routesBy s m (r ∷ rs) = record { numbers = r.numbers; says = routeAnswer s m r.numbers } ∷ routesBy s m rs
+abbrev routes_by : (file map : List ℕ) → List RouteRow → List RouteRow
+routes_by s m [] = []
+routes_by s m (r ∷ rs) = record { numbers = r.numbers; says = route_answer s m r.numbers } ∷ routes_by s m rs
 
 abbrev row_by : Row → Row
 row_by r =
@@ -102,8 +102,8 @@ row_by r =
       bytes = r.bytes;
       contents = reading s 0;
       count = filling s buffer;
-      map = filledBytes s buffer;
-      routes = routesBy s (filledBytes s buffer) r.routes;
+      map = filled_bytes s buffer;
+      routes = routes_by s (filled_bytes s buffer) r.routes;
     }
 
 abbrev pub rows_by : List Row → List Row

@@ -16,10 +16,10 @@ use lib.IntN.{ℤ, pos}
 use lib.ListN.{length, get_or}
 use Rattle.integers.proofs.Truth.{same_truth}
 use Rattle.layout.specs.Layout.{FieldForm, field, plain}
-use Rattle.layout_write.specs.Writing.{between, canHold, canHoldAll}
+use Rattle.layout_write.specs.Writing.{between, can_hold, can_hold_all}
 use Rattle.layout_write.proofs.Held.{held_at}
 use Rattle.writable.specs.Fits.{all_below}
-use Rattle.writable.specs.Inner.{leasts, greatests, eachBetween}
+use Rattle.writable.specs.Inner.{leasts, greatests, each_between}
 
 module _ (p : ℕ → Bool) where
   pub all_more : (i : ℕ) → all_below p i ≡ true → p i ≡ true → all_below p (i + 1) ≡ true
@@ -55,20 +55,20 @@ test-same p q r = λ i. between (p i) (q i) (r i)
 abbrev pub none : FieldForm
 none = field plain 0
 
-pub held_of : (fs : List FieldForm) (zs : List ℤ) → length zs ≡ length fs → ((k : ℕ) → k < length fs → canHold (get_or fs k none) (get_or zs k (pos 0)) ≡ true)
-    → canHoldAll fs zs ≡ true
+pub held_of : (fs : List FieldForm) (zs : List ℤ) → length zs ≡ length fs → ((k : ℕ) → k < length fs → can_hold (get_or fs k none) (get_or zs k (pos 0)) ≡ true)
+    → can_hold_all fs zs ≡ true
 held_of [] [] e f = refl
 held_of [] (z ∷ zs) e f = absurd (omega arith)
 held_of (g ∷ fs) [] e f = absurd (omega arith)
 held_of (g ∷ fs) (z ∷ zs) e f = rw (f 0 (omega arith), held_of fs zs (omega arith) (λ k l. f (suc k) (omega arith))) refl
 
-bounds-at : (fs : List FieldForm) (i : ℕ) → i < length fs → (z : ℤ) → between (get_or (leasts fs) i (pos 0)) (get_or (greatests fs) i (pos 0)) z ≡ canHold (get_or fs i none) z
+bounds-at : (fs : List FieldForm) (i : ℕ) → i < length fs → (z : ℤ) → between (get_or (leasts fs) i (pos 0)) (get_or (greatests fs) i (pos 0)) z ≡ can_hold (get_or fs i none) z
 bounds-at [] i l z = absurd (omega arith)
 bounds-at (f ∷ fs) zero l z = refl
 bounds-at (f ∷ fs) (suc i) l z = bounds-at fs i (omega arith) z
 
-pub header-held : (fs : List FieldForm) (zs : List ℤ) → length zs ≡ length fs → eachBetween (leasts fs) (greatests fs) zs ≡ canHoldAll fs zs
+pub header-held : (fs : List FieldForm) (zs : List ℤ) → length zs ≡ length fs → each_between (leasts fs) (greatests fs) zs ≡ can_hold_all fs zs
 header-held fs zs e =
-    same_truth (eachBetween (leasts fs) (greatests fs) zs) (canHoldAll fs zs)
+    same_truth (each_between (leasts fs) (greatests fs) zs) (can_hold_all fs zs)
     (λ h. held_of fs zs e (λ k l. sym (bounds-at fs k l (get_or zs k (pos 0))) ∙ all-at _ (length zs) h k (omega arith)))
     (λ h. all_of _ (length zs) (λ i l. bounds-at fs i (omega arith) (get_or zs i (pos 0)) ∙ held_at fs zs h i (omega arith)))

@@ -16,13 +16,13 @@ use Rattle.integers.proofs.Bounds.{within-weaken}
 use Rattle.integers.proofs.Omega.{zarith, -!, abs! }
 use Rattle.grid.specs.Usable.{OneTo64, GridWithin}
 use Rattle.layout.specs.declared.Layout.{Layout}
-use Rattle.layout.specs.Layout.{field, less_one, signed, headerFields}
-use Rattle.layout.specs.Values.{headerFrom}
+use Rattle.layout.specs.Layout.{field, less_one, signed, header_fields}
+use Rattle.layout.specs.Values.{header_from}
 use Rattle.layout.specs.Taken.{UsableLayout}
-use Rattle.layout_write.specs.Writing.{canHold, canHoldAll}
+use Rattle.layout_write.specs.Writing.{can_hold, can_hold_all}
 use Rattle.layout_write.proofs.Held.{held_at, plain-held, less-one-held, signed-held}
 
-side : (z : ℤ) → canHold (field less_one 6) z ≡ true → OneTo64 (nat_abs z)
+side : (z : ℤ) → can_hold (field less_one 6) z ≡ true → OneTo64 (nat_abs z)
 side z h =
     let u = less-one-held 6 z h in
     record {
@@ -30,15 +30,15 @@ side z h =
       most = omega (zarith, u.some, u.small, -! z (pos 1), abs! z, abs! (z -ℤ pos 1));
     }
 
-module _ (l : Layout) (u : UsableLayout l) (ns : List ℤ) (h : canHoldAll (headerFields l) ns ≡ true) where
-  coordinate : (z : ℤ) → canHold (field signed l.coordinate) z ≡ true → Within (2 ^ 24) z
+module _ (l : Layout) (u : UsableLayout l) (ns : List ℤ) (h : can_hold_all (header_fields l) ns ≡ true) where
+  coordinate : (z : ℤ) → can_hold (field signed l.coordinate) z ≡ true → Within (2 ^ 24) z
   coordinate z k =
       within-weaken (pow_mono {i = l.coordinate - 1} {j = 24} (omega (arith, u.coordinate-most))) (signed-held l.coordinate z k)
 
-  pub grid-held : GridWithin (2 ^ 24) (2 ^ 25) (headerFrom ns).grid
+  pub grid-held : GridWithin (2 ^ 24) (2 ^ 25) (header_from ns).grid
   grid-held =
       let z : ℕ → ℤ = λ i. get_or ns i (pos 0) in
-      let held = held_at (headerFields l) ns h in
+      let held = held_at (header_fields l) ns h in
       record {
         x = side (z 1) (held 1 (lit< tt));
         y = side (z 2) (held 2 (lit< tt));

@@ -12,11 +12,11 @@ abbrev pub greatests : List FieldForm → List ℤ
 greatests fs = map (λ f. greatest f.coding f.bits) fs
 
 -- Each number of a list lies between its own two others; between the same two; and each tenth, from the first on, is a kind.
-abbrev pub eachBetween : (lows highs : List ℤ) → List ℤ → Bool
-eachBetween ls hs zs = all_below (λ i. between (get_or ls i (pos 0)) (get_or hs i (pos 0)) (get_or zs i (pos 0))) (length zs)
+abbrev pub each_between : (lows highs : List ℤ) → List ℤ → Bool
+each_between ls hs zs = all_below (λ i. between (get_or ls i (pos 0)) (get_or hs i (pos 0)) (get_or zs i (pos 0))) (length zs)
 
-abbrev pub allBetween : (low high : ℤ) → List ℤ → Bool
-allBetween low high zs = all_below (λ i. between low high (get_or zs i (pos 0))) (length zs)
+abbrev pub all_between : (low high : ℤ) → List ℤ → Bool
+all_between low high zs = all_below (λ i. between low high (get_or zs i (pos 0))) (length zs)
 
-abbrev pub kindsBetween : List ℤ → ℕ → Bool
-kindsBetween zs n = all_below (λ i. between (pos 0) (pos 2) (get_or zs (i * 10) (pos 0))) n
+abbrev pub kinds_between : List ℤ → ℕ → Bool
+kinds_between zs n = all_below (λ i. between (pos 0) (pos 2) (get_or zs (i * 10) (pos 0))) n

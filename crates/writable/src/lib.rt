@@ -1,11 +1,11 @@
 // May these values be written? The tests of a header's numbers and of a list of triangles.
 ghost use Rattle.std.specs.Prelude.{true, ◌≡◌, ◌*◌, ◌≤◌, ◌^◌, pos, length};
-ghost use Rattle.layout.specs.Layout.{signed, headerFields};
-ghost use Rattle.layout.specs.Values.{headerFrom};
-ghost use Rattle.layout_write.specs.Writing.{least, greatest, between, canHoldAll};
+ghost use Rattle.layout.specs.Layout.{signed, header_fields};
+ghost use Rattle.layout.specs.Values.{header_from};
+ghost use Rattle.layout_write.specs.Writing.{least, greatest, between, can_hold_all};
 ghost use Rattle.layout_write.specs.Put.{WritableLayout};
-ghost use Rattle.writable.specs.Fits.{headerFits, all_below, triangleFits, triangleNumbers};
-ghost use Rattle.writable.specs.Inner.{leasts, greatests, eachBetween, allBetween, kindsBetween};
+ghost use Rattle.writable.specs.Fits.{header_fits, all_below, triangle_fits, triangle_numbers};
+ghost use Rattle.writable.specs.Inner.{leasts, greatests, each_between, all_between, kinds_between};
 
 use geometry::Point;
 use grid::Grid;
@@ -14,7 +14,7 @@ use layout::Layout;
 // Can a header's fields hold its numbers, is the edge above 0, and does the grid end within the farthest coordinate?
 pub fn header_fits(layout: Layout, numbers: &[i32]) -> bool
     requires { WritableLayout layout × (length numbers.now ≡ 10) }
-    ensures { result ≡ headerFits layout numbers.now }
+    ensures { result ≡ header_fits layout numbers.now }
 {
     if !each_between(&lows(layout), &highs(layout), numbers) {
         return false;
@@ -27,8 +27,8 @@ pub fn header_fits(layout: Layout, numbers: &[i32]) -> bool
 
 // The grid of a header's numbers.
 fn grid_of(layout: Layout, numbers: &[i32]) -> Grid
-    requires { WritableLayout layout × (canHoldAll (headerFields layout) numbers.now ≡ true) }
-    ensures { result ≡ (headerFrom numbers.now).grid }
+    requires { WritableLayout layout × (can_hold_all (header_fields layout) numbers.now ≡ true) }
+    ensures { result ≡ (header_from numbers.now).grid }
 {
     let origin = Point {
         x: integers::read_i32(numbers, 5),
@@ -47,7 +47,7 @@ fn grid_of(layout: Layout, numbers: &[i32]) -> Grid
 // The least number that each field of a header can hold.
 fn lows(layout: Layout) -> [i64; 10]
     requires { WritableLayout layout }
-    ensures { result ≡ leasts (headerFields layout) }
+    ensures { result ≡ leasts (header_fields layout) }
 {
     let low = least_signed(layout.coordinate);
     [0, 1, 1, 1, 0, low, low, low, 0, 0]
@@ -56,7 +56,7 @@ fn lows(layout: Layout) -> [i64; 10]
 // The greatest.
 fn highs(layout: Layout) -> [i64; 10]
     requires { WritableLayout layout }
-    ensures { result ≡ greatests (headerFields layout) }
+    ensures { result ≡ greatests (header_fields layout) }
 {
     let high = greatest_signed(layout.coordinate);
     let edge = power(layout.edge) - 1;
@@ -90,7 +90,7 @@ fn greatest_signed(width: usize) -> i64
 // Does each number lie between its own two others?
 fn each_between(lows: &[i64], highs: &[i64], numbers: &[i32]) -> bool
     requires { (length lows.now ≡ length numbers.now) × (length highs.now ≡ length numbers.now) }
-    ensures { result ≡ eachBetween lows.now highs.now numbers.now }
+    ensures { result ≡ each_between lows.now highs.now numbers.now }
 {
     let mut i = 0;
     while i < numbers.len() {
@@ -116,7 +116,7 @@ fn between(low: i64, high: i64, x: i64) -> bool
 // kind passes too, so that the test has one loop with no way out, which the compiler makes fast.
 pub fn triangles_fit(layout: Layout, triangles: &[i32], count: usize) -> bool
     requires { WritableLayout layout × (length triangles.now ≡ count * 10) }
-    ensures { result ≡ all_below (λ i. triangleFits layout (triangleNumbers triangles.now i)) count }
+    ensures { result ≡ all_below (λ i. triangle_fits layout (triangle_numbers triangles.now i)) count }
 {
     let w = layout.coordinate;
     if !all_between(least_signed(w), greatest_signed(w), triangles) {
@@ -127,7 +127,7 @@ pub fn triangles_fit(layout: Layout, triangles: &[i32], count: usize) -> bool
 
 // Does every number lie between two others?
 fn all_between(low: i64, high: i64, numbers: &[i32]) -> bool
-    ensures { result ≡ allBetween low high numbers.now }
+    ensures { result ≡ all_between low high numbers.now }
 {
     let mut good = true;
     let mut i = 0;
@@ -141,7 +141,7 @@ fn all_between(low: i64, high: i64, numbers: &[i32]) -> bool
 // Is the kind of each triangle 0, 1 or 2?
 fn kinds_fit(triangles: &[i32], count: usize) -> bool
     requires { length triangles.now ≡ count * 10 }
-    ensures { result ≡ kindsBetween triangles.now count }
+    ensures { result ≡ kinds_between triangles.now count }
 {
     let mut i = 0;
     while i < count {

@@ -14,7 +14,7 @@ use Rattle.integers.proofs.Omega.{zarith, abs! }
 use Rattle.integers.proofs.Bounds.{within-neg}
 use Rattle.integers.proofs.Expr.{var, neg}
 use Rattle.integers.proofs.Machine.{asks, run}
-use Rattle.bar_line.specs.Line.{nearestThousandth, thousandths}
+use Rattle.bar_line.specs.Line.{nearest_thousandth, thousandths}
 use Rattle.bar_line.proofs.thousandths.Statement.{statement}
 use Rattle.bar_line.proofs.thousandths.Tie as tie
 
@@ -48,7 +48,7 @@ module _ (c : tie.After-to-index2) where
   less : c.before.to-index.result ≤ 2 ^ 13 * c.to-index2.result
   less = omega (arith, size_is, parts_is, (start c).requires.2)
 
-  most : nearestThousandth c.before.to-index.result c.to-index2.result < 2 ^ 24
+  most : nearest_thousandth c.before.to-index.result c.to-index2.result < 2 ^ 24
   most = (div-lt_iff_lt-mul {k = 2 * c.to-index2.result} (omega (arith, some))).1 (omega (arith, some, less))
 
 module _ (c : tie.After-from-index) where
@@ -56,10 +56,10 @@ module _ (c : tie.After-from-index) where
   s = start c.before
 
   abbrev size : ℕ
-  size = nearestThousandth (nat_abs s.args.n) (nat_abs s.args.d)
+  size = nearest_thousandth (nat_abs s.args.n) (nat_abs s.args.d)
 
   is : c.from-index.result ≡ pos size
-  is = c.from-index.ensures ∙ ap pos (ap₂ nearestThousandth (size_is c.before) (parts_is c.before))
+  is = c.from-index.ensures ∙ ap pos (ap₂ nearest_thousandth (size_is c.before) (parts_is c.before))
 
   small : Within (2 ^ 24) (pos size)
   small = record { within = rw (← size_is c.before, ← parts_is c.before) (omega (arith, most c.before)) }
@@ -75,11 +75,11 @@ module _ (c : tie.After-from-index) where
   ins = (rw is small, tt)
 
 -- ---- by the sign
-of_negative : (n d : ℤ) → n <ℤ pos 0 → thousandths n d ≡ neg_ℤ (pos (nearestThousandth (nat_abs n) (nat_abs d)))
+of_negative : (n d : ℤ) → n <ℤ pos 0 → thousandths n d ≡ neg_ℤ (pos (nearest_thousandth (nat_abs n) (nat_abs d)))
 of_negative (pos n) d h = absurd (omega zarith)
 of_negative (negsuc n) d h = refl
 
-of_positive : (n d : ℤ) → pos 0 ≤ℤ n → thousandths n d ≡ pos (nearestThousandth (nat_abs n) (nat_abs d))
+of_positive : (n d : ℤ) → pos 0 ≤ℤ n → thousandths n d ≡ pos (nearest_thousandth (nat_abs n) (nat_abs d))
 of_positive (pos n) d h = refl
 of_positive (negsuc n) d h = absurd (omega zarith)
 

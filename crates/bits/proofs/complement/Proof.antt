@@ -16,7 +16,7 @@ use Rattle.integers.specs.Within.{Withins}
 use Rattle.integers.proofs.Bounds.{within-weaken, within-fits}
 use Rattle.integers.proofs.Casts.{unsigned-fits, signed-fits}
 use Rattle.integers.proofs.Expr.{Expr, var, raw, ◌⊕◌, eval}
-use Rattle.integers.proofs.Machine.{within-toZ, asks, run, bound}
+use Rattle.integers.proofs.Machine.{within-to_z, asks, run, bound}
 use Rattle.integers.proofs.Omega.{zarith, +!, abs! }
 use Rattle.bits.proofs.Fields.{one_shl}
 use Rattle.bits.proofs.complement.Statement.{statement}
@@ -43,7 +43,7 @@ module _ (s : tie.Start) where
   ρ = s.args.x ∷ to_z w64 (2 ^ w) ∷ []
 
   ins : Withins bs ρ
-  ins = (within-weaken most s.pre.1, (within-toZ w64 (lit< tt) most, tt))
+  ins = (within-weaken most s.pre.1, (within-to_z w64 (lit< tt) most, tt))
 
   whole : to_z w64 (2 ^ w) ≡ pos (2 ^ w)
   whole = to_z_pos w64 (omega (arith, most))

@@ -12,7 +12,7 @@ use mir.Val.{to_z}
 use mir.Facts.{to_z_pos}
 use Rattle.integers.specs.Within.{Withins}
 use Rattle.integers.proofs.Expr.{Expr, raw, ◌⊖◌}
-use Rattle.integers.proofs.Machine.{within-toZ, asks, run}
+use Rattle.integers.proofs.Machine.{within-to_z, asks, run}
 use Rattle.bits.proofs.Fields.{one_shl}
 use Rattle.bits.proofs.Signs.{halves, low_half, high_half}
 use Rattle.bits.proofs.sign_extend.Statement.{statement}
@@ -39,7 +39,7 @@ abbrev bs : List ℕ
 bs = 2 ^ 25 ∷ 2 ^ 25 ∷ []
 
 ins : (s : tie.Start) → Withins bs (ρ s)
-ins s = (within-toZ w64 {n = s.args.n} (lit< tt) (omega (arith, most s, s.requires)), (within-toZ w64 (lit< tt) (most s), tt))
+ins s = (within-to_z w64 {n = s.args.n} (lit< tt) (omega (arith, most s, s.requires)), (within-to_z w64 (lit< tt) (most s), tt))
 
 add-result : tie.Need-overflow-add-result
 add-result c = rw (half c.before, both c.before) (record { fits = omega (arith, most c.before) })

@@ -9,16 +9,16 @@ use native.Mathlib.Omega.{arith}
 use lib.IntN.{ℤ}
 use lib.ListN.{length, get_or, set, length-set}
 use Rattle.grid.specs.declared.CellRange.{CellRange}
-use Rattle.pending.specs.Pending.{stack, Progress, Each, load, putIf}
+use Rattle.pending.specs.Pending.{stack, Progress, Each, load, put_if}
 use Rattle.pending.proofs.Laws.{bit-most, stack-length, stack_top, stack-halves, each_halves, begun, finished, halved, done, lighter, halves-lighter, six}
 use Rattle.columns.specs.declared.Strides.{Strides}
 use Rattle.columns.specs.Draw.{drawn, rectangle}
-use Rattle.columns.specs.Column.{cellPasses, ColumnsReady, RowsIn, DrawsColumns}
+use Rattle.columns.specs.Column.{cell_passes, ColumnsReady, RowsIn, DrawsColumns}
 use Rattle.columns.proofs.Drawing.{drawn-or}
 use Rattle.columns.proofs.Cells.{still-ready}
 use Rattle.blocks.specs.declared.Block.{Block}
 use Rattle.blocks.specs.declared.Halves.{Halves}
-use Rattle.blocks.specs.Block.{uRange, vRange, columnsOf, width_of, depth_of, BlockIn, SmallerPart, keptBy}
+use Rattle.blocks.specs.Block.{u_range, v_range, columns_of, width_of, depth_of, BlockIn, SmallerPart, kept_by}
 use Rattle.blocks.proofs.Cuts.{rows, wider}
 use Rattle.blocks.proofs.Far.{ruled_out}
 use Rattle.blocks.proofs.halve.Statement.{statement}
@@ -28,7 +28,7 @@ abbrev empty : Block
 empty = record { u0 = 0; u1 = 0; v0 = 0; v1 = 0 }
 
 abbrev wanted : List ℤ → Strides → CellRange → Block → ℕ → Bool
-wanted forms g w b = drawn g (columnsOf b) (cellPasses forms w)
+wanted forms g w b = drawn g (columns_of b) (cell_passes forms w)
 
 -- what holds of a block at its place of the list
 abbrev Waits : Strides → ℕ → Block → Type 0
@@ -62,7 +62,7 @@ loop-holds c =
     let s = c.before in
     let b = s.args.whole in
     let p = s.requires.0 in
-    (refl, ((s.requires.1, omega (arith, six (width_of (uRange b)), six (width_of (vRange b)))), tt), begun (wants s) b s.args.map.now, p.low, p.high)
+    (refl, ((s.requires.1, omega (arith, six (width_of (u_range b)), six (width_of (v_range b)))), tt), begun (wants s) b s.args.map.now, p.low, p.high)
 
 -- ---- a turn: the last block is taken
 module _ (c : tie.In-loop invariant-loop decreases-loop) where
@@ -112,7 +112,7 @@ scan-requires c κs =
     (ready t, subst (λ r. RowsIn r g.nu) (sym u.u-range.ensures) (rows h.u), subst (λ r. RowsIn r g.nv) (sym c.v-range.ensures) (rows h.v))
 
 scanned : (c : tie.After-scan invariant-loop decreases-loop) → let t = c.before.before.before.before.before.before.before in let a = (start t).args in
-    DrawsColumns a.forms.now a.g a.w (columnsOf (top t)) t.before.loop.map c.scan.new.0 c.scan.result
+    DrawsColumns a.forms.now a.g a.w (columns_of (top t)) t.before.loop.map c.scan.new.0 c.scan.result
 scanned c =
     let v = c.before in
     let u = v.before in
@@ -144,10 +144,10 @@ module _ (c : tie.After-cut invariant-loop decreases-loop) where
   half = c.cut.result
 
   abbrev kept : Block → Bool
-  kept = keptBy (start turn).args.forms.now
+  kept = kept_by (start turn).args.forms.now
 
   abbrev halves : List Block
-  halves = putIf (kept half.low) half.low (putIf (kept half.high) half.high (rest turn))
+  halves = put_if (kept half.low) half.low (put_if (kept half.high) half.high (rest turn))
 
   at_most : place turn ≤ 11
   at_most = omega (arith, shallow turn, c.cut.ensures.low_part.less)
@@ -170,7 +170,7 @@ module _ (c : tie.After-cut invariant-loop decreases-loop) where
       let none = ruled_out a.g a.forms.now a.w in
       let both = c.cut.ensures.both in
       halved (wants (start turn)) a.whole a.map.now (progress turn)
-      (λ n. sym (drawn-or a.g (columnsOf half.low) (columnsOf half.high) (columnsOf (top turn)) (cellPasses a.forms.now a.w) (λ i j. sym (both i j)) n))
+      (λ n. sym (drawn-or a.g (columns_of half.low) (columns_of half.high) (columns_of (top turn)) (cell_passes a.forms.now a.w) (λ i j. sym (both i j)) n))
       (none half.low) (none half.high)
 
   lighter-halves : load depth_of halves < load depth_of (stack empty (blocks turn) (pending turn))

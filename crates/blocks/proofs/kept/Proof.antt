@@ -6,22 +6,22 @@ use lib.IntN.{ℤ, pos}
 use lib.Signed.{le_z}
 use Rattle.map.specs.Map.{bit}
 use Rattle.columns.proofs.Cells.{negative, positive, square-0, square-1, square-2}
-use Rattle.blocks.specs.Block.{keptBy, farValue}
+use Rattle.blocks.specs.Block.{kept_by, far_value}
 use Rattle.blocks.proofs.kept.Statement.{statement}
 use Rattle.blocks.proofs.kept.Tie as tie
 
 abbrev value : tie.Start → ℕ → ℤ
-value s m = farValue s.args.forms.now m s.args.b
+value s m = far_value s.args.forms.now m s.args.b
 
 returns : tie.Need-returns
-unfolding keptBy
+unfolding kept_by
 returns c =
     let r = c.before in
     let s = r.before in
     sym (ap bit (square-0 (value s 0) (value s 1) (value s 2) (sym r.rules-out.ensures ∙ c.if1.true)))
 
 returns-2 : tie.Need-returns-2
-unfolding keptBy
+unfolding kept_by
 returns-2 c =
     let r = c.before in
     let s = r.before.before.before in
@@ -32,8 +32,8 @@ module _ (c : tie.After-rules-out3) where
   abbrev start : tie.Start
   start = c.before.before.before.before.before
 
-  third : keptBy start.args.forms.now start.args.b ≡ le_z (pos 0) (value start 2)
-  unfolding keptBy
+  third : kept_by start.args.forms.now start.args.b ≡ le_z (pos 0) (value start 2)
+  unfolding kept_by
   third =
       let e2 = c.before in
       let r2 = e2.before in

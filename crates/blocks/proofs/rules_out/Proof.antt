@@ -8,15 +8,15 @@ use lib.Signed.{lt_z}
 use Rattle.integers.specs.Within.{Withins}
 use Rattle.integers.proofs.Expr.{Expr, var, ◌⊕◌, ◌⊗◌}
 use Rattle.integers.proofs.Machine.{asks, run}
-use Rattle.geometry.specs.Bounds.{indexMax}
+use Rattle.geometry.specs.Bounds.{index_max}
 use Rattle.forms.specs.declared.EdgeForm.{EdgeForm}
-use Rattle.forms.specs.Form.{edge_at, edgeSlopeMax, edgeMax}
-use Rattle.blocks.specs.Block.{farEnd}
+use Rattle.forms.specs.Form.{edge_at, edge_slope_max, edge_max}
+use Rattle.blocks.specs.Block.{far_end}
 use Rattle.blocks.proofs.rules_out.Statement.{statement}
 use Rattle.blocks.proofs.rules_out.Tie as tie
 
 abbrev bs : List ℕ
-bs = edgeSlopeMax ∷ edgeSlopeMax ∷ edgeMax ∷ indexMax ∷ indexMax ∷ []
+bs = edge_slope_max ∷ edge_slope_max ∷ edge_max ∷ index_max ∷ index_max ∷ []
 
 abbrev e : Expr
 e = var 0 ⊗ var 3 ⊕ var 1 ⊗ var 4 ⊕ var 2
@@ -41,17 +41,17 @@ module _ (c : tie.After-far-end2) where
   abbrev edge : EdgeForm
   edge = let a = read.before.args in (edge_at a.forms.now a.m).uv
 
-  far-u : first.far-end.result ≡ farEnd edge.a read.before.args.b.u0 read.before.args.b.u1
+  far-u : first.far-end.result ≡ far_end edge.a read.before.args.b.u0 read.before.args.b.u1
   far-u =
       let b = read.before.args.b in
       let a-is = run ρ (var 0) bs tt ins ∙ ap (λ (f : EdgeForm). f.a) read.uv.ensures in
-      first.far-end.ensures.0 ∙ ap (λ (a : ℤ). farEnd a b.u0 b.u1) a-is
+      first.far-end.ensures.0 ∙ ap (λ (a : ℤ). far_end a b.u0 b.u1) a-is
 
-  far-v : c.far-end2.result ≡ farEnd edge.b read.before.args.b.v0 read.before.args.b.v1
+  far-v : c.far-end2.result ≡ far_end edge.b read.before.args.b.v0 read.before.args.b.v1
   far-v =
       let b = read.before.args.b in
       let b-is = run ρ (var 1) bs tt ins ∙ ap (λ (f : EdgeForm). f.b) read.uv.ensures in
-      c.far-end2.ensures.0 ∙ ap (λ (a : ℤ). farEnd a b.v0 b.v1) b-is
+      c.far-end2.ensures.0 ∙ ap (λ (a : ℤ). far_end a b.v0 b.v1) b-is
 
 returns : tie.Need-returns
 returns c =

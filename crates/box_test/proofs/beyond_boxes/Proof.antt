@@ -3,9 +3,9 @@ use mathlib.Core.Path.{◌≡◌, sym, ap₂, ◌∙◌, subst}
 use mir.Syntax.{w64}
 use mir.Val.{to_z, of_z}
 use mir.Facts.{to_z-of_z}
-use Rattle.geometry.specs.Bounds.{offsetMax, TriangleWithin}
+use Rattle.geometry.specs.Bounds.{offset_max, TriangleWithin}
 use Rattle.placed.proofs.Measured.{measured-within}
-use Rattle.box_test.specs.Inner.{formsMeet}
+use Rattle.box_test.specs.Inner.{forms_meet}
 use Rattle.box_test.proofs.Law.{forms-law}
 use Rattle.box_test.proofs.beyond_boxes.Statement.{statement}
 use Rattle.box_test.proofs.beyond_boxes.Tie as tie
@@ -18,5 +18,5 @@ beyond-boxes-spec =
     tie.close
     (tie.spec
     (λ c κs. (c.requires.1, c.requires.0))
-    (λ c κs. let s = c.before in (subst (TriangleWithin offsetMax) (sym c.measured-from.ensures) (measured-within s.requires.1 s.requires.0), rw (extent-is s) s.requires.2))
-    (λ c. let m = c.before in let s = m.before in c.forms-meet.ensures ∙ ap₂ formsMeet m.measured-from.ensures (extent-is s) ∙ sym (forms-law s.args.t s.args.p s.requires.3)))
+    (λ c κs. let s = c.before in (subst (TriangleWithin offset_max) (sym c.measured-from.ensures) (measured-within s.requires.1 s.requires.0), rw (extent-is s) s.requires.2))
+    (λ c. let m = c.before in let s = m.before in c.forms-meet.ensures ∙ ap₂ forms_meet m.measured-from.ensures (extent-is s) ∙ sym (forms-law s.args.t s.args.p s.requires.3)))

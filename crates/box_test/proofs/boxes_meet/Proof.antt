@@ -8,10 +8,10 @@ use lib.IntN.{ℤ}
 use Rattle.integers.specs.Within.{Withins}
 use Rattle.integers.proofs.Expr.{Expr, var, nth}
 use Rattle.integers.proofs.Machine.{bounded, learnt}
-use Rattle.geometry.specs.Bounds.{coordinateMax, extentMax, each}
-use Rattle.geometry.specs.Geometry.{cube, Axis, xOf, yOf, z_of}
-use Rattle.overlap.specs.Rule.{boxHolds}
-use Rattle.box_test.specs.Inner.{axisMeets, axisBounds}
+use Rattle.geometry.specs.Bounds.{coordinate_max, extent_max, each}
+use Rattle.geometry.specs.Geometry.{cube, Axis, x_of, y_of, z_of}
+use Rattle.overlap.specs.Rule.{box_holds}
+use Rattle.box_test.specs.Inner.{axis_meets, axis_bounds}
 use Rattle.box_test.proofs.boxes_meet.Statement.{statement}
 use Rattle.box_test.proofs.boxes_meet.Tie as tie
 
@@ -23,7 +23,7 @@ abbrev ρ : tie.Start → List ℤ
     t.v0.x ∷ t.v0.y ∷ t.v0.z ∷ t.v1.x ∷ t.v1.y ∷ t.v1.z ∷ t.v2.x ∷ t.v2.y ∷ t.v2.z ∷ p.x ∷ p.y ∷ p.z ∷ s.args.extent ∷ []
 
 abbrev bs : List ℕ
-bs = each coordinateMax 12 (extentMax ∷ [])
+bs = each coordinate_max 12 (extent_max ∷ [])
 
 ins : (s : tie.Start) → Withins bs (ρ s)
 ins s =
@@ -32,20 +32,20 @@ ins s =
     (t.v0.x, (t.v0.y, (t.v0.z, (t.v1.x, (t.v1.y, (t.v1.z, (t.v2.x, (t.v2.y, (t.v2.z, (p.x, (p.y, (p.z, (s.requires.2, tt)))))))))))))
 
 -- the arguments of each call for an axis
-abbrev onX : List Expr
-onX = var 0 ∷ var 3 ∷ var 6 ∷ var 9 ∷ var 12 ∷ []
+abbrev on_x : List Expr
+on_x = var 0 ∷ var 3 ∷ var 6 ∷ var 9 ∷ var 12 ∷ []
 
-abbrev onY : List Expr
-onY = var 1 ∷ var 4 ∷ var 7 ∷ var 10 ∷ var 12 ∷ []
+abbrev on_y : List Expr
+on_y = var 1 ∷ var 4 ∷ var 7 ∷ var 10 ∷ var 12 ∷ []
 
-abbrev onZ : List Expr
-onZ = var 2 ∷ var 5 ∷ var 8 ∷ var 11 ∷ var 12 ∷ []
+abbrev on_z : List Expr
+on_z = var 2 ∷ var 5 ∷ var 8 ∷ var 11 ∷ var 12 ∷ []
 
 abbrev Meets : Bool → List ℤ → Type 0
-Meets r l = r ≡ axisMeets (nth l 0) (nth l 1) (nth l 2) (nth l 3) (nth l 4)
+Meets r l = r ≡ axis_meets (nth l 0) (nth l 1) (nth l 2) (nth l 3) (nth l 4)
 
 abbrev holds : tie.Start → Axis → Bool
-holds s a = boxHolds s.args.t s.args.p (cube s.args.extent) a
+holds s a = box_holds s.args.t s.args.p (cube s.args.extent) a
 
 -- ---- what each call said
 abbrev at1 : tie.After-axis-meets → tie.Start
@@ -57,14 +57,14 @@ at2 c = c.before.before.before.before.before
 abbrev at3 : tie.After-axis-meets3 → tie.Else2
 at3 c = c.before.before.before.before.before
 
-x-is : (c : tie.After-axis-meets) → c.axis-meets.result ≡ holds (at1 c) xOf
-x-is c = let s = at1 c in learnt (ρ s) (Meets c.axis-meets.result) onX bs tt (ins s) c.axis-meets.ensures
+x-is : (c : tie.After-axis-meets) → c.axis-meets.result ≡ holds (at1 c) x_of
+x-is c = let s = at1 c in learnt (ρ s) (Meets c.axis-meets.result) on_x bs tt (ins s) c.axis-meets.ensures
 
-y-is : (c : tie.After-axis-meets2) → c.axis-meets2.result ≡ holds (at1 (at2 c).before) yOf
-y-is c = let s = at1 (at2 c).before in learnt (ρ s) (Meets c.axis-meets2.result) onY bs tt (ins s) c.axis-meets2.ensures
+y-is : (c : tie.After-axis-meets2) → c.axis-meets2.result ≡ holds (at1 (at2 c).before) y_of
+y-is c = let s = at1 (at2 c).before in learnt (ρ s) (Meets c.axis-meets2.result) on_y bs tt (ins s) c.axis-meets2.ensures
 
 z-is : (c : tie.After-axis-meets3) → c.axis-meets3.result ≡ holds (at1 (at2 (at3 c).before).before) z_of
-z-is c = let s = at1 (at2 (at3 c).before).before in learnt (ρ s) (Meets c.axis-meets3.result) onZ bs tt (ins s) c.axis-meets3.ensures
+z-is c = let s = at1 (at2 (at3 c).before).before in learnt (ρ s) (Meets c.axis-meets3.result) on_z bs tt (ins s) c.axis-meets3.ensures
 
 -- ---- up to the first that fails
 returns : tie.Need-returns
@@ -85,9 +85,9 @@ pub boxes-meet-spec : {M : Type 1} → statement M
 boxes-meet-spec =
     tie.close
     (tie.spec
-    (λ c κs. let s = c.before.before.before.before.before.before.before in bounded (ρ s) onX bs axisBounds tt (ins s))
+    (λ c κs. let s = c.before.before.before.before.before.before.before in bounded (ρ s) on_x bs axis_bounds tt (ins s))
     returns
-    (λ c κs. let s = at1 c.before.before.before.before.before in bounded (ρ s) onY bs axisBounds tt (ins s))
+    (λ c κs. let s = at1 c.before.before.before.before.before in bounded (ρ s) on_y bs axis_bounds tt (ins s))
     returns-2
-    (λ c κs. let s = at1 (at2 c.before.before.before.before.before).before in bounded (ρ s) onZ bs axisBounds tt (ins s))
+    (λ c κs. let s = at1 (at2 c.before.before.before.before.before).before in bounded (ρ s) on_z bs axis_bounds tt (ins s))
     returns-3)

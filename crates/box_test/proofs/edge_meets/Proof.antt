@@ -10,7 +10,7 @@ use Rattle.integers.proofs.Expr.{Expr, var, num, ◌⊖◌, nth}
 use Rattle.integers.proofs.Machine.{asks, bounded, learnt}
 use Rattle.forms.specs.declared.EdgeForm.{EdgeForm}
 use Rattle.forms.specs.Triangle as F
-use Rattle.box_test.specs.Inner.{edgeMeets, edgeBounds}
+use Rattle.box_test.specs.Inner.{edge_meets, edge_bounds}
 use Rattle.box_test.proofs.edge_meets.Statement.{statement}
 use Rattle.box_test.proofs.edge_meets.Tie as tie
 
@@ -28,22 +28,22 @@ abbrev es : List Expr
 es = var 0 ∷ ea ∷ eb ∷ var 1 ∷ var 2 ∷ num 0 ∷ var 5 ∷ []
 
 abbrev Form : EdgeForm → List ℤ → Type 0
-Form r l = r ≡ F.edgeForm (nth l 0) (nth l 1) (nth l 2) (nth l 3) (nth l 4) (nth l 5) (nth l 6)
+Form r l = r ≡ F.edge_form (nth l 0) (nth l 1) (nth l 2) (nth l 3) (nth l 4) (nth l 5) (nth l 6)
 
 returns : tie.Need-returns
-unfolding edgeMeets
+unfolding edge_meets
 returns c =
     let f = c.before.before in
     let s = f.before in
     let told = c.struct_told.given in
     ap (le_z (pos 0)) (to_z-of_z {w = w64} {z = f.edge-form.result.c} (search (rules, told)))
-    ∙ ap (λ (e : EdgeForm). le_z (pos 0) e.c) (learnt (ρ s) (Form f.edge-form.result) es edgeBounds tt s.requires f.edge-form.ensures)
+    ∙ ap (λ (e : EdgeForm). le_z (pos 0) e.c) (learnt (ρ s) (Form f.edge-form.result) es edge_bounds tt s.requires f.edge-form.ensures)
 
 pub edge-meets-spec : {M : Type 1} → statement M
 edge-meets-spec =
     tie.close
     (tie.spec
-    (λ c. (asks (ρ c) ea edgeBounds tt c.requires).2)
-    (λ c. (asks (ρ c) eb edgeBounds tt c.requires).2)
-    (λ c κs. bounded (ρ c) (ea ∷ eb ∷ var 1 ∷ var 2 ∷ num 0 ∷ var 5 ∷ []) edgeBounds F.edgeBounds tt c.requires)
+    (λ c. (asks (ρ c) ea edge_bounds tt c.requires).2)
+    (λ c. (asks (ρ c) eb edge_bounds tt c.requires).2)
+    (λ c κs. bounded (ρ c) (ea ∷ eb ∷ var 1 ∷ var 2 ∷ num 0 ∷ var 5 ∷ []) edge_bounds F.edge_bounds tt c.requires)
     returns)

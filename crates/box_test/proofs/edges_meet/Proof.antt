@@ -6,7 +6,7 @@ use mathlib.Core.Path.{◌≡◌, sym, ◌∙◌}
 use lib.IntN.{ℤ}
 use Rattle.integers.proofs.Expr.{Expr, var, nth}
 use Rattle.integers.proofs.Machine.{bounded, learnt}
-use Rattle.box_test.specs.Inner.{edgeMeets, edgeBounds, edgesBounds}
+use Rattle.box_test.specs.Inner.{edge_meets, edge_bounds, edges_bounds}
 use Rattle.box_test.proofs.edges_meet.Statement.{statement}
 use Rattle.box_test.proofs.edges_meet.Tie as tie
 
@@ -24,13 +24,13 @@ abbrev third : List Expr
 third = var 0 ∷ var 5 ∷ var 6 ∷ var 1 ∷ var 2 ∷ var 7 ∷ []
 
 abbrev Meets : Bool → List ℤ → Type 0
-Meets r l = r ≡ edgeMeets (nth l 0) (nth l 1) (nth l 2) (nth l 3) (nth l 4) (nth l 5)
+Meets r l = r ≡ edge_meets (nth l 0) (nth l 1) (nth l 2) (nth l 3) (nth l 4) (nth l 5)
 
-first-is : (c : tie.After-edge-meets) → let a = c.before.args in c.edge-meets.result ≡ edgeMeets a.n a.a0 a.b0 a.a1 a.b1 a.extent
-first-is c = let s = c.before in learnt (ρ s) (Meets c.edge-meets.result) first edgesBounds tt s.requires c.edge-meets.ensures
+first-is : (c : tie.After-edge-meets) → let a = c.before.args in c.edge-meets.result ≡ edge_meets a.n a.a0 a.b0 a.a1 a.b1 a.extent
+first-is c = let s = c.before in learnt (ρ s) (Meets c.edge-meets.result) first edges_bounds tt s.requires c.edge-meets.ensures
 
-second_is : (c : tie.After-edge-meets2) → let a = c.before.before.before.args in c.edge-meets2.result ≡ edgeMeets a.n a.a1 a.b1 a.a2 a.b2 a.extent
-second_is c = let s = c.before.before.before in learnt (ρ s) (Meets c.edge-meets2.result) second edgesBounds tt s.requires c.edge-meets2.ensures
+second_is : (c : tie.After-edge-meets2) → let a = c.before.before.before.args in c.edge-meets2.result ≡ edge_meets a.n a.a1 a.b1 a.a2 a.b2 a.extent
+second_is c = let s = c.before.before.before in learnt (ρ s) (Meets c.edge-meets2.result) second edges_bounds tt s.requires c.edge-meets2.ensures
 
 returns : tie.Need-returns
 returns c = rw (sym (first-is c.before) ∙ not-true _ c.if1.true)
@@ -46,15 +46,15 @@ returns-3 c =
     let e = f.before.before in
     let s = e.before.before in
     rw (sym (first-is e.before) ∙ not-false _ e.if1.false, sym (second_is f.before) ∙ not-false _ f.if2.false)
-    (learnt (ρ s) (Meets c.edge-meets3.result) third edgesBounds tt s.requires c.edge-meets3.ensures)
+    (learnt (ρ s) (Meets c.edge-meets3.result) third edges_bounds tt s.requires c.edge-meets3.ensures)
 
 pub edges-meet-spec : {M : Type 1} → statement M
 edges-meet-spec =
     tie.close
     (tie.spec
-    (λ c κs. bounded (ρ c) first edgesBounds edgeBounds tt c.requires)
+    (λ c κs. bounded (ρ c) first edges_bounds edge_bounds tt c.requires)
     returns
-    (λ c κs. let s = c.before.before in bounded (ρ s) second edgesBounds edgeBounds tt s.requires)
+    (λ c κs. let s = c.before.before in bounded (ρ s) second edges_bounds edge_bounds tt s.requires)
     returns-2
-    (λ c κs. let s = c.before.before.before.before in bounded (ρ s) third edgesBounds edgeBounds tt s.requires)
+    (λ c κs. let s = c.before.before.before.before in bounded (ρ s) third edges_bounds edge_bounds tt s.requires)
     returns-3)

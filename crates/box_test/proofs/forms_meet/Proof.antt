@@ -8,11 +8,11 @@ use lib.IntN.{ℤ}
 use Rattle.integers.specs.Within.{Withins}
 use Rattle.integers.proofs.Expr.{Expr, var, nth}
 use Rattle.integers.proofs.Machine.{run, bounded, learnt}
-use Rattle.geometry.specs.Bounds.{normalMax, offsetMax, extentMax, each, PointWithin}
+use Rattle.geometry.specs.Bounds.{normal_max, offset_max, extent_max, each, PointWithin}
 use Rattle.geometry.specs.declared.Point.{Point}
 use Rattle.overlap.specs.Rule.{normal}
 use Rattle.forms.proofs.Sizes.{normal-within}
-use Rattle.box_test.specs.Inner.{planeMeets, edgesMeet, formsMeet, edgesBounds}
+use Rattle.box_test.specs.Inner.{plane_meets, edges_meet, forms_meet, edges_bounds}
 use Rattle.box_test.proofs.forms_meet.Statement.{statement}
 use Rattle.box_test.proofs.forms_meet.Tie as tie
 
@@ -24,10 +24,10 @@ abbrev ρ : tie.After-normal → List ℤ
     n.x ∷ n.y ∷ n.z ∷ t.v0.x ∷ t.v0.y ∷ t.v0.z ∷ t.v1.x ∷ t.v1.y ∷ t.v1.z ∷ t.v2.x ∷ t.v2.y ∷ t.v2.z ∷ c.before.args.extent ∷ []
 
 abbrev bs : List ℕ
-bs = each normalMax 3 (each offsetMax 9 (extentMax ∷ []))
+bs = each normal_max 3 (each offset_max 9 (extent_max ∷ []))
 
-normal-in : (c : tie.After-normal) → PointWithin normalMax c.normal.result
-normal-in c = subst (PointWithin normalMax) (sym c.normal.ensures) (normal-within c.before.requires.0)
+normal-in : (c : tie.After-normal) → PointWithin normal_max c.normal.result
+normal-in c = subst (PointWithin normal_max) (sym c.normal.ensures) (normal-within c.before.requires.0)
 
 ins : (c : tie.After-normal) → Withins bs (ρ c)
 ins c =
@@ -46,28 +46,28 @@ abbrev zx : List Expr
 zx = var 1 ∷ var 5 ∷ var 3 ∷ var 8 ∷ var 6 ∷ var 11 ∷ var 9 ∷ var 12 ∷ []
 
 abbrev Meet : Bool → List ℤ → Type 0
-Meet r l = r ≡ edgesMeet (nth l 0) (nth l 1) (nth l 2) (nth l 3) (nth l 4) (nth l 5) (nth l 6) (nth l 7)
+Meet r l = r ≡ edges_meet (nth l 0) (nth l 1) (nth l 2) (nth l 3) (nth l 4) (nth l 5) (nth l 6) (nth l 7)
 
 -- ---- the four tests, by the normal that the first call gave
 module _ (s : tie.After-normal) where
   abbrev plane : Point → Bool
-  plane n = planeMeets n s.before.args.t.v0 s.before.args.extent
+  plane n = plane_meets n s.before.args.t.v0 s.before.args.extent
 
-  abbrev onXY : Point → Bool
-  onXY n = let t = s.before.args.t in edgesMeet n.z t.v0.x t.v0.y t.v1.x t.v1.y t.v2.x t.v2.y s.before.args.extent
+  abbrev on_xy : Point → Bool
+  on_xy n = let t = s.before.args.t in edges_meet n.z t.v0.x t.v0.y t.v1.x t.v1.y t.v2.x t.v2.y s.before.args.extent
 
-  abbrev onYZ : Point → Bool
-  onYZ n = let t = s.before.args.t in edgesMeet n.x t.v0.y t.v0.z t.v1.y t.v1.z t.v2.y t.v2.z s.before.args.extent
+  abbrev on_yz : Point → Bool
+  on_yz n = let t = s.before.args.t in edges_meet n.x t.v0.y t.v0.z t.v1.y t.v1.z t.v2.y t.v2.z s.before.args.extent
 
-  abbrev onZX : Point → Bool
-  onZX n = let t = s.before.args.t in edgesMeet n.y t.v0.z t.v0.x t.v1.z t.v1.x t.v2.z t.v2.x s.before.args.extent
+  abbrev on_zx : Point → Bool
+  on_zx n = let t = s.before.args.t in edges_meet n.y t.v0.z t.v0.x t.v1.z t.v1.x t.v2.z t.v2.x s.before.args.extent
 
   abbrev all : Point → Bool
-  all n = plane n && onXY n && onYZ n && onZX n
+  all n = plane n && on_xy n && on_yz n && on_zx n
 
   -- the whole, of the triangle's normal
-  whole : {r : Bool} → r ≡ all s.normal.result → r ≡ formsMeet s.before.args.t s.before.args.extent
-  unfolding formsMeet
+  whole : {r : Bool} → r ≡ all s.normal.result → r ≡ forms_meet s.before.args.t s.before.args.extent
+  unfolding forms_meet
   whole {r} h = subst (λ (n : Point). r ≡ all n) s.normal.ensures h
 
   -- up to the first that fails
@@ -75,16 +75,16 @@ module _ (s : tie.After-normal) where
   n = s.normal.result
 
   stop1 : plane n ≡ false → false ≡ all n
-  stop1 e = λ i. sym e i && onXY n && onYZ n && onZX n
+  stop1 e = λ i. sym e i && on_xy n && on_yz n && on_zx n
 
-  stop2 : plane n ≡ true → onXY n ≡ false → false ≡ all n
-  stop2 e f = λ i. sym e i && sym f i && onYZ n && onZX n
+  stop2 : plane n ≡ true → on_xy n ≡ false → false ≡ all n
+  stop2 e f = λ i. sym e i && sym f i && on_yz n && on_zx n
 
-  stop3 : plane n ≡ true → onXY n ≡ true → onYZ n ≡ false → false ≡ all n
-  stop3 e f g = λ i. sym e i && sym f i && sym g i && onZX n
+  stop3 : plane n ≡ true → on_xy n ≡ true → on_yz n ≡ false → false ≡ all n
+  stop3 e f g = λ i. sym e i && sym f i && sym g i && on_zx n
 
-  last : plane n ≡ true → onXY n ≡ true → onYZ n ≡ true → onZX n ≡ all n
-  last e f g = λ i. sym e i && sym f i && sym g i && onZX n
+  last : plane n ≡ true → on_xy n ≡ true → on_yz n ≡ true → on_zx n ≡ all n
+  last e f g = λ i. sym e i && sym f i && sym g i && on_zx n
 
 -- ---- what each call said
 abbrev at1 : tie.After-plane-meets → tie.After-normal
@@ -102,15 +102,15 @@ at4 c = c.before.before.before.before.before.before.before.before
 plane-is : (c : tie.After-plane-meets) → let s = at1 c in c.plane-meets.result ≡ plane s s.normal.result
 plane-is c =
     let s = at1 c in
-    c.plane-meets.ensures ∙ (λ i. planeMeets s.normal.result s.before.args.t.v0 (run (ρ s) (var 12) bs tt (ins s) i))
+    c.plane-meets.ensures ∙ (λ i. plane_meets s.normal.result s.before.args.t.v0 (run (ρ s) (var 12) bs tt (ins s) i))
 
-xy-is : (c : tie.After-edges-meet) → let s = at1 (at2 c).before in c.edges-meet.result ≡ onXY s s.normal.result
+xy-is : (c : tie.After-edges-meet) → let s = at1 (at2 c).before in c.edges-meet.result ≡ on_xy s s.normal.result
 xy-is c = let s = at1 (at2 c).before in learnt (ρ s) (Meet c.edges-meet.result) xy bs tt (ins s) c.edges-meet.ensures
 
-yz-is : (c : tie.After-edges-meet2) → let s = at1 (at2 (at3 c).before).before in c.edges-meet2.result ≡ onYZ s s.normal.result
+yz-is : (c : tie.After-edges-meet2) → let s = at1 (at2 (at3 c).before).before in c.edges-meet2.result ≡ on_yz s s.normal.result
 yz-is c = let s = at1 (at2 (at3 c).before).before in learnt (ρ s) (Meet c.edges-meet2.result) yz bs tt (ins s) c.edges-meet2.ensures
 
-zx-is : (c : tie.After-edges-meet3) → let s = at1 (at2 (at3 (at4 c).before).before).before in c.edges-meet3.result ≡ onZX s s.normal.result
+zx-is : (c : tie.After-edges-meet3) → let s = at1 (at2 (at3 (at4 c).before).before).before in c.edges-meet3.result ≡ on_zx s s.normal.result
 zx-is c = let s = at1 (at2 (at3 (at4 c).before).before).before in learnt (ρ s) (Meet c.edges-meet3.result) zx bs tt (ins s) c.edges-meet3.ensures
 
 returns : tie.Need-returns
@@ -142,11 +142,11 @@ forms-meet-spec =
     tie.close
     (tie.spec
     (λ c κs. c.requires.0)
-    (λ c κs. let s = c.before.before.before in (normal-in s, s.before.requires.0.v0, (bounded (ρ s) (var 12 ∷ []) bs (extentMax ∷ []) tt (ins s)).0))
+    (λ c κs. let s = c.before.before.before in (normal-in s, s.before.requires.0.v0, (bounded (ρ s) (var 12 ∷ []) bs (extent_max ∷ []) tt (ins s)).0))
     returns
-    (λ c κs. let s = at1 c.before.before.before.before.before.before.before.before in bounded (ρ s) xy bs edgesBounds tt (ins s))
+    (λ c κs. let s = at1 c.before.before.before.before.before.before.before.before in bounded (ρ s) xy bs edges_bounds tt (ins s))
     returns-2
-    (λ c κs. let s = at1 (at2 c.before.before.before.before.before.before.before.before).before in bounded (ρ s) yz bs edgesBounds tt (ins s))
+    (λ c κs. let s = at1 (at2 c.before.before.before.before.before.before.before.before).before in bounded (ρ s) yz bs edges_bounds tt (ins s))
     returns-3
-    (λ c κs. let s = at1 (at2 (at3 c.before.before.before.before.before.before.before.before).before).before in bounded (ρ s) zx bs edgesBounds tt (ins s))
+    (λ c κs. let s = at1 (at2 (at3 c.before.before.before.before.before.before.before.before).before).before in bounded (ρ s) zx bs edges_bounds tt (ins s))
     returns-4)

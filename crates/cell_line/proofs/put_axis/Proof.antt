@@ -8,7 +8,7 @@ use lib.IntN.{ℤ, pos, ◌+ℤ◌, ◌*ℤ◌}
 use mir.Syntax.{w32, w64}
 use mir.Val.{to_z, of_z}
 use mir.Facts.{to_z-of_z}
-use Rattle.cell_line.specs.Line.{axisNumbers}
+use Rattle.cell_line.specs.Line.{axis_numbers}
 use Rattle.cell_line.proofs.put_axis.Statement.{statement}
 use Rattle.cell_line.proofs.put_axis.Tie as tie
 
@@ -24,7 +24,7 @@ module _ (c : tie.After-end-of2) where
   at n = ap₂ (sum n) (to_z-of_z (start c).ranges.origin) (to_z-of_z (start c).ranges.edge)
 
   numbers : (to_z w32 (of_z w32 c.before.before.small.result) ∷ to_z w32 (of_z w32 c.before.end_of_lem.result) ∷ to_z w32 (of_z w32 c.end-of2.result) ∷ [])
-      ≡ axisNumbers (start c).args.origin (start c).args.i (start c).args.edge
+      ≡ axis_numbers (start c).args.origin (start c).args.i (start c).args.edge
   numbers = λ k. (to_z-of_z {w = w32} (record { sfits = c.before.before.small.type-inv }) ∙ c.before.before.small.ensures) k
       ∷ (to_z-of_z {w = w32} (record { sfits = c.before.end_of_lem.type-inv }) ∙ c.before.end_of_lem.ensures ∙ at (start c).args.i) k
       ∷ (to_z-of_z {w = w32} (record { sfits = c.end-of2.type-inv }) ∙ c.end-of2.ensures ∙ at ((start c).args.i + 1)) k ∷ []

@@ -10,12 +10,12 @@ use mir.Val.{to_z, of_z}
 use mir.Facts.{to_z-of_z}
 use Rattle.integers.proofs.Machine.{back}
 use Rattle.grid.specs.declared.CellRange.{CellRange}
-use Rattle.forms.specs.Form.{edge_at, planeAt}
+use Rattle.forms.specs.Form.{edge_at, plane_at}
 use Rattle.runs.specs.Run.{Narrows}
 use Rattle.runs.proofs.Narrow.{by_both}
-use Rattle.column_rule.specs.Column.{planePasses, edgePasses, cellAlong}
-use Rattle.columns.specs.Draw.{oneColumn, inRun}
-use Rattle.columns.specs.Column.{runCells, RunIn}
+use Rattle.column_rule.specs.Column.{plane_passes, edge_passes, cell_along}
+use Rattle.columns.specs.Draw.{one_column, in_run}
+use Rattle.columns.specs.Column.{run_cells, RunIn}
 use Rattle.columns.proofs.Drawing.{draws-same, drawn-on}
 use Rattle.columns.proofs.column.Statement.{statement}
 use Rattle.columns.proofs.column.Tie as tie
@@ -56,16 +56,16 @@ module _ (c : tie.After-from-index2) where
         v-in = rw v-is (record { within = omega (arith, p.2, p.0.numbers.nv-most) });
       }
 
-  by-edge : {run r : CellRange} (e : ℕ) (x : ℤ) → m x ≡ x → Narrows run (edgePasses (edge_at l e) u v (m x)) r
-      → Narrows run (edgePasses (edge_at l e) (pos (start c).args.i) (pos (start c).args.j) x) r
-  by-edge {run} {r} e x h n = subst (λ p. Narrows run p r) (λ i. edgePasses (edge_at l e) (u-is i) (v-is i) (h i)) n
+  by-edge : {run r : CellRange} (e : ℕ) (x : ℤ) → m x ≡ x → Narrows run (edge_passes (edge_at l e) u v (m x)) r
+      → Narrows run (edge_passes (edge_at l e) (pos (start c).args.i) (pos (start c).args.j) x) r
+  by-edge {run} {r} e x h n = subst (λ p. Narrows run p r) (λ i. edge_passes (edge_at l e) (u-is i) (v-is i) (h i)) n
 
-by-plane : (c : tie.After-plane-run) → let n = c.before in let a = (start n).args in Narrows (w n) (planePasses (planeAt (l n)) (pos a.i) (pos a.j)) c.plane-run.result
-by-plane c = let n = c.before in subst (λ p. Narrows (w n) p c.plane-run.result) (λ i. planePasses (planeAt (l n)) (u-is n i) (v-is n i)) c.plane-run.ensures
+by-plane : (c : tie.After-plane-run) → let n = c.before in let a = (start n).args in Narrows (w n) (plane_passes (plane_at (l n)) (pos a.i) (pos a.j)) c.plane-run.result
+by-plane c = let n = c.before in subst (λ p. Narrows (w n) p c.plane-run.result) (λ i. plane_passes (plane_at (l n)) (u-is n i) (v-is n i)) c.plane-run.ensures
 
 -- the run, which the plane and the edges leave
 the-run : (c : tie.After-edge-run3) → let n = c.before.before.before.before in let a = (start n).args in
-    Narrows (w n) (cellAlong (planeAt (l n)) (edge_at (l n) 0) (edge_at (l n) 1) (edge_at (l n) 2) (pos a.i) (pos a.j) a.x0 a.x1 a.x2) c.edge-run3.result
+    Narrows (w n) (cell_along (plane_at (l n)) (edge_at (l n) 0) (edge_at (l n) 1) (edge_at (l n) 2) (pos a.i) (pos a.j) a.x0 a.x1 a.x2) c.edge-run3.result
 the-run c =
     let e2 = c.before in
     let e1 = e2.before in
@@ -84,7 +84,7 @@ returns c =
     let n = p.before in
     let a = (start n).args in
     let r = by-plane p in (
-      draws-same a.g (drawn-on a.g (oneColumn a.i a.j) (inRun e3.edge-run3.result) (runCells (l n) (w n) (pos a.i) (pos a.j) a.x0 a.x1 a.x2)
+      draws-same a.g (drawn-on a.g (one_column a.i a.j) (in_run e3.edge-run3.result) (run_cells (l n) (w n) (pos a.i) (pos a.j) a.x0 a.x1 a.x2)
           (λ x y k e. (the-run e3).exact k)) f.fill-run.ensures,
       r.from,
       omega (arith, r.ordered, r.to),

@@ -15,11 +15,11 @@ use Rattle.integers.specs.Within.{Withins}
 use Rattle.integers.proofs.Bounds.{within-weaken}
 use Rattle.integers.proofs.Expr.{Expr, var, ◌⊕◌, ◌⊗◌, nth}
 use Rattle.integers.proofs.Machine.{Asks, asks, bound, learnt, asked, back}
-use Rattle.geometry.specs.Bounds.{indexMax}
+use Rattle.geometry.specs.Bounds.{index_max}
 use Rattle.grid.specs.declared.CellRange.{CellRange}
 use Rattle.forms.specs.declared.Edge.{Edge}
 use Rattle.forms.specs.declared.EdgeForm.{EdgeForm}
-use Rattle.forms.specs.Form.{edge_at, edgeSlopeMax, edgeMax}
+use Rattle.forms.specs.Form.{edge_at, edge_slope_max, edge_max}
 use Rattle.runs.specs.Run.{Stepping, Narrows, passes}
 use Rattle.runs.proofs.Narrow.{by_both, by-same, by-none}
 use Rattle.columns.proofs.edge_run.Statement.{statement}
@@ -31,7 +31,7 @@ m z = to_z w64 (of_z w64 z)
 
 -- ---- a form along a column: its coefficient there, another coefficient, the constant, and the column's number for the other
 abbrev bs : List ℕ
-bs = edgeSlopeMax ∷ edgeSlopeMax ∷ edgeMax ∷ indexMax ∷ []
+bs = edge_slope_max ∷ edge_slope_max ∷ edge_max ∷ index_max ∷ []
 
 abbrev e : Expr
 e = var 1 ⊗ var 3 ⊕ var 2

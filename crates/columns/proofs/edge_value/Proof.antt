@@ -9,9 +9,9 @@ use Rattle.integers.specs.Within.{Within, Withins}
 use Rattle.integers.proofs.Bounds.{within-weaken}
 use Rattle.integers.proofs.Expr.{Expr, var, ◌⊕◌, ◌⊗◌}
 use Rattle.integers.proofs.Machine.{asks, run, bound}
-use Rattle.geometry.specs.Bounds.{indexMax}
-use Rattle.forms.specs.Form.{edgeSlopeMax, edgeMax}
-use Rattle.columns.specs.Column.{valueMax}
+use Rattle.geometry.specs.Bounds.{index_max}
+use Rattle.forms.specs.Form.{edge_slope_max, edge_max}
+use Rattle.columns.specs.Column.{value_max}
 use Rattle.columns.proofs.edge_value.Statement.{statement}
 use Rattle.columns.proofs.edge_value.Tie as tie
 
@@ -19,7 +19,7 @@ abbrev ρ : tie.After-uv → List ℤ
 ρ c = let f = c.uv.result in let a = c.before.args in f.a ∷ f.b ∷ f.c ∷ a.u ∷ a.v ∷ []
 
 abbrev bs : List ℕ
-bs = edgeSlopeMax ∷ edgeSlopeMax ∷ edgeMax ∷ indexMax ∷ indexMax ∷ []
+bs = edge_slope_max ∷ edge_slope_max ∷ edge_max ∷ index_max ∷ index_max ∷ []
 
 ins : (c : tie.After-uv) → Withins bs (ρ c)
 ins c =
@@ -35,7 +35,7 @@ returns c =
     let f = c.before.before.before.before.before.before in
     let r = run (ρ f) e bs tt (ins f) in
     let a = f.before.args in
-    (r ∙ (λ i. let u = f.uv.ensures i in u.a *ℤ a.u +ℤ u.b *ℤ a.v +ℤ u.c), subst (Within valueMax) (sym r) (within-weaken (lit≤ tt) (bound (ρ f) e bs (ins f))))
+    (r ∙ (λ i. let u = f.uv.ensures i in u.a *ℤ a.u +ℤ u.b *ℤ a.v +ℤ u.c), subst (Within value_max) (sym r) (within-weaken (lit≤ tt) (bound (ρ f) e bs (ins f))))
 
 pub edge-value-spec : {M : Type 1} → statement M
 edge-value-spec =

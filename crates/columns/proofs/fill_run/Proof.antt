@@ -4,9 +4,9 @@ use mathlib.Core.Path.{◌≡◌, refl, sym, ap, ◌∙◌, subst}
 use Prim.Native.Nat.{ℕ, ◌+◌, ◌*◌, ◌-◌, ◌≤◌, ◌<◌}
 use native.Mathlib.Omega.{arith}
 use lib.ListN.{length}
-use Rattle.map.specs.Inner.{withFilled}
+use Rattle.map.specs.Inner.{with_filled}
 use Rattle.map.proofs.Filled.{length-with}
-use Rattle.columns.specs.Draw.{number_of, Draws, oneColumn, inRun, range, RunReady}
+use Rattle.columns.specs.Draw.{number_of, Draws, one_column, in_run, range, RunReady}
 use Rattle.columns.proofs.Drawing.{strides, empty-run, draws-cell, small}
 use Rattle.columns.proofs.fill_run.Statement.{statement}
 use Rattle.columns.proofs.fill_run.Tie as tie
@@ -15,7 +15,7 @@ abbrev invariant-loop : tie.invariant-loop
 invariant-loop map₀ i j su sv sw end base k₀ map k =
     (k₀ ≤ k) × (k ≤ end) × (length map ≡ length map₀)
     × ((nu nv nw : ℕ) → RunReady (strides su nu sv nv sw nw) (length map₀) i j (range k₀ end)
-    → Draws (strides su nu sv nv sw nw) (oneColumn i j) (inRun (range k₀ k)) map₀ map)
+    → Draws (strides su nu sv nv sw nw) (one_column i j) (in_run (range k₀ k)) map₀ map)
 
 abbrev decreases-loop : tie.decreases-loop
 decreases-loop map₀ i j su sv sw end base k₀ map k = end - k
@@ -58,14 +58,14 @@ loop-again c =
     let a = s.args in
     let k = l.loop.k in
     let n = number_of a.g a.i a.j k in
-    let is : f.fill-cell.new.0 ≡ withFilled l.loop.map n = f.fill-cell.ensures in
+    let is : f.fill-cell.new.0 ≡ with_filled l.loop.map n = f.fill-cell.ensures in
     let room : n < 8 * length l.loop.map = rw l.loop.invariant.2 (in_map s i.loop-test.true) in (
       omega arith,
       omega arith,
       ap length is ∙ length-with l.loop.map n ∙ l.loop.invariant.2,
       λ nu nv nw r.
           let g = strides a.g.su nu a.g.sv nv a.g.sw nw in
-          subst (λ m. Draws g (oneColumn a.i a.j) (inRun (range a.run.first (k + 1))) a.map.now m) (sym is)
+          subst (λ m. Draws g (one_column a.i a.j) (in_run (range a.run.first (k + 1))) a.map.now m) (sym is)
           (draws-cell g r.numbers a.i a.j a.run.first k r.i-in r.j-in (omega (arith, r.end)) l.loop.invariant.0 a.map.now l.loop.map room (l.loop.invariant.3 nu nv nw r)),
     )
 
@@ -78,7 +78,7 @@ returns c =
     let s = l.before.before in
     let a = s.args in
     let done : l.loop.k ≡ a.run.end = omega arith in
-    subst (λ e. Draws a.g (oneColumn a.i a.j) (inRun (range a.run.first e)) a.map.now l.loop.map) done
+    subst (λ e. Draws a.g (one_column a.i a.j) (in_run (range a.run.first e)) a.map.now l.loop.map) done
     (l.loop.invariant.3 a.g.nu a.g.nv a.g.nw s.requires)
 
 pub fill-run-spec : {M : Type 1} → statement M

@@ -9,10 +9,10 @@ use Rattle.integers.specs.Within.{Withins}
 use Rattle.integers.proofs.Bounds.{within-weaken}
 use Rattle.integers.proofs.Expr.{Expr, var, ◌⊕◌, ◌⊗◌, nth}
 use Rattle.integers.proofs.Machine.{asks, bound, learnt, asked}
-use Rattle.geometry.specs.Bounds.{indexMax}
+use Rattle.geometry.specs.Bounds.{index_max}
 use Rattle.forms.specs.declared.PlaneForm.{PlaneForm}
-use Rattle.forms.specs.Form.{planeMax}
-use Rattle.runs.specs.Run.{slopeMax, reachMax, Narrows, inSlab, SlabReady}
+use Rattle.forms.specs.Form.{plane_max}
+use Rattle.runs.specs.Run.{slope_max, reach_max, Narrows, in_slab, SlabReady}
 use Rattle.columns.proofs.plane_run.Statement.{statement}
 use Rattle.columns.proofs.plane_run.Tie as tie
 
@@ -20,7 +20,7 @@ abbrev ρ : tie.After-plane → List ℤ
 ρ c = let f = c.plane.result in let a = c.before.args in f.u ∷ f.v ∷ f.w ∷ f.at ∷ f.reach ∷ a.u ∷ a.v ∷ []
 
 abbrev bs : List ℕ
-bs = slopeMax ∷ slopeMax ∷ slopeMax ∷ planeMax ∷ reachMax ∷ indexMax ∷ indexMax ∷ []
+bs = slope_max ∷ slope_max ∷ slope_max ∷ plane_max ∷ reach_max ∷ index_max ∷ index_max ∷ []
 
 ins : (c : tie.After-plane) → Withins bs (ρ c)
 ins c =
@@ -55,8 +55,8 @@ returns : tie.Need-returns
 returns c =
     let f = c.before.before.before.before.before.before.before.before.before in
     let a = f.before.args in
-    subst (λ (p : PlaneForm). Narrows a.w (inSlab p.w (p.at +ℤ p.u *ℤ a.u +ℤ p.v *ℤ a.v) p.reach) c.by-slab.result) f.plane.ensures
-    (learnt (ρ f) (λ l. Narrows a.w (inSlab (nth l 0) (nth l 1) (nth l 2)) c.by-slab.result) es bs tt (ins f) c.by-slab.ensures)
+    subst (λ (p : PlaneForm). Narrows a.w (in_slab p.w (p.at +ℤ p.u *ℤ a.u +ℤ p.v *ℤ a.v) p.reach) c.by-slab.result) f.plane.ensures
+    (learnt (ρ f) (λ l. Narrows a.w (in_slab (nth l 0) (nth l 1) (nth l 2)) c.by-slab.result) es bs tt (ins f) c.by-slab.ensures)
 
 pub plane-run-spec : {M : Type 1} → statement M
 plane-run-spec =

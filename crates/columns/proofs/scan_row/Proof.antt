@@ -13,12 +13,12 @@ use mir.Val.{to_z, of_z, SFits}
 use Rattle.integers.specs.Within.{Within, Withins}
 use Rattle.integers.proofs.Expr.{raw, var, ◌⊕◌}
 use Rattle.integers.proofs.Machine.{asks, run, back, cases}
-use Rattle.geometry.specs.Bounds.{indexMax}
+use Rattle.geometry.specs.Bounds.{index_max}
 use Rattle.grid.specs.Range.{in_range}
-use Rattle.forms.specs.Form.{edge_at, edgeSlopeMax, BoundedForm}
-use Rattle.column_rule.specs.Column.{uvOf, squarePasses}
-use Rattle.columns.specs.Draw.{oneColumn, row_of, range}
-use Rattle.columns.specs.Column.{value_at, valueMax, columnPasses, runCells, cellPasses, ColumnsReady, DrawsColumns}
+use Rattle.forms.specs.Form.{edge_at, edge_slope_max, BoundedForm}
+use Rattle.column_rule.specs.Column.{uv_of, square_passes}
+use Rattle.columns.specs.Draw.{one_column, row_of, range}
+use Rattle.columns.specs.Column.{value_at, value_max, column_passes, run_cells, cell_passes, ColumnsReady, DrawsColumns}
 use Rattle.columns.proofs.Drawing.{draws-same, draws-nothing, drawn-on}
 use Rattle.columns.proofs.Cells.{next-value, value-within, ruled_out, let-in, no-range, still-ready, no-columns, more-columns, row_more}
 use Rattle.columns.proofs.scan_row.Statement.{statement}
@@ -41,14 +41,14 @@ record Step (l : List ℤ) (m a j : ℕ) (x s : ℤ) : Type 0 where
   j-most : j ≤ 64
 
 module _ {l : List ℤ} {m a j : ℕ} {x s : ℤ} (h : Step l m a j x s) where
-  ins : Withins (valueMax ∷ edgeSlopeMax ∷ []) (x ∷ s ∷ [])
+  ins : Withins (value_max ∷ edge_slope_max ∷ []) (x ∷ s ∷ [])
   ins = (rw h.is (value-within l m a j h.form h.a-most h.j-most), (rw h.step h.form.a, tt))
 
   fits : SFits w64 (x +ℤ to_z w64 (of_z w64 s))
-  fits = (asks (x ∷ s ∷ []) (raw 0 ⊕ var 1) (valueMax ∷ edgeSlopeMax ∷ []) tt ins).2
+  fits = (asks (x ∷ s ∷ []) (raw 0 ⊕ var 1) (value_max ∷ edge_slope_max ∷ []) tt ins).2
 
   stepped : to_z w64 (of_z w64 (x +ℤ to_z w64 (of_z w64 s))) ≡ value_at l m (a + 1) j
-  stepped = run (x ∷ s ∷ []) (raw 0 ⊕ var 1) (valueMax ∷ edgeSlopeMax ∷ []) tt ins ∙ (λ i. h.is i +ℤ h.step i) ∙ next-value l m a (pos j)
+  stepped = run (x ∷ s ∷ []) (raw 0 ⊕ var 1) (value_max ∷ edge_slope_max ∷ []) tt ins ∙ (λ i. h.is i +ℤ h.step i) ∙ next-value l m a (pos j)
 
 -- ---- the first column's numbers
 abbrev begin : tie.After-from-index2 invariant-loop decreases-loop → tie.Start invariant-loop decreases-loop
@@ -61,15 +61,15 @@ module _ (c : tie.After-from-index2 invariant-loop decreases-loop) where
   v-is : to_z w64 (of_z w64 c.from-index2.result) ≡ pos (begin c).args.j
   v-is = back w64 c.from-index2.type-inv ∙ c.from-index2.ensures
 
-  u-in : Within indexMax (to_z w64 (of_z w64 c.before.from-index.result))
+  u-in : Within index_max (to_z w64 (of_z w64 c.before.from-index.result))
   u-in = let p = (begin c).requires in rw u-is (record { within = omega (arith, p.1.ordered, p.1.end, p.0.numbers.nu-most) })
 
-  v-in : Within indexMax (to_z w64 (of_z w64 c.from-index2.result))
+  v-in : Within index_max (to_z w64 (of_z w64 c.from-index2.result))
   v-in = let p = (begin c).requires in rw v-is (record { within = omega (arith, p.2, p.0.numbers.nv-most) })
 
-  value-is : (m : ℕ) {x : ℤ} → x ≡ uvOf (edge_at (begin c).args.forms.now m) (to_z w64 (of_z w64 c.before.from-index.result)) (to_z w64 (of_z w64 c.from-index2.result))
+  value-is : (m : ℕ) {x : ℤ} → x ≡ uv_of (edge_at (begin c).args.forms.now m) (to_z w64 (of_z w64 c.before.from-index.result)) (to_z w64 (of_z w64 c.from-index2.result))
       → x ≡ value_at (begin c).args.forms.now m (begin c).args.u.first (begin c).args.j
-  value-is m e = e ∙ (λ i. uvOf (edge_at (begin c).args.forms.now m) (u-is i) (v-is i))
+  value-is m e = e ∙ (λ i. uv_of (edge_at (begin c).args.forms.now m) (u-is i) (v-is i))
 
 loop-holds : tie.Need-loop-init invariant-loop decreases-loop
 loop-holds c =
@@ -97,28 +97,28 @@ ready : (l : tie.At-loop invariant-loop decreases-loop) → let a = (start l).ar
 ready l = let d = l.loop.invariant.2 in still-ready (start l).requires.0 d.draws.len d.low d.high
 
 square-is : (c : tie.After-square-passes invariant-loop decreases-loop) {t : Bool} → c.square-passes.result ≡ t
-    → let l = c.before.before in columnPasses (start l).args.forms.now l.loop.a (start l).args.j ≡ t
+    → let l = c.before.before in column_passes (start l).args.forms.now l.loop.a (start l).args.j ≡ t
 square-is c e =
     let v = c.before.before.loop.invariant in
-    (λ i. squarePasses (sym v.3 i) (sym v.4 i) (sym v.5 i)) ∙ sym c.square-passes.ensures ∙ e
+    (λ i. square_passes (sym v.3 i) (sym v.4 i) (sym v.5 i)) ∙ sym c.square-passes.ensures ∙ e
 
 here : (c : tie.Joined1 invariant-loop decreases-loop) → let l = c.before.before.before in let a = (start l).args in
-    DrawsColumns a.forms.now a.g a.w (oneColumn l.loop.a a.j) l.loop.map c.if1.map c.if1.near
+    DrawsColumns a.forms.now a.g a.w (one_column l.loop.a a.j) l.loop.map c.if1.map c.if1.near
 here c =
     let l = c.before.before.before in
     let v = l.loop.invariant in
     let a = (start l).args in
     let f = a.forms.now in
     let i = l.loop.a in
-    let D = DrawsColumns f a.g a.w (oneColumn i a.j) l.loop.map in
+    let D = DrawsColumns f a.g a.w (one_column i a.j) l.loop.map in
     cases c.if1.branch
     (λ w.
     let r = w.2.ensures in
     subst₂ D (sym w.5) (sym w.6)
     (record {
       draws = draws-same a.g
-          (drawn-on a.g (oneColumn i a.j) (runCells f a.w (pos i) (pos a.j) (to_z w64 l.loop.x0) (to_z w64 l.loop.x1) (to_z w64 l.loop.x2)) (cellPasses f a.w)
-          (λ x y k e. (λ d. runCells f a.w (pos i) (pos a.j) (v.3 d) (v.4 d) (v.5 d) x y k) ∙ let-in f a.w i a.j (square-is c.before w.0.taken) x y k e))
+          (drawn-on a.g (one_column i a.j) (run_cells f a.w (pos i) (pos a.j) (to_z w64 l.loop.x0) (to_z w64 l.loop.x1) (to_z w64 l.loop.x2)) (cell_passes f a.w)
+          (λ x y k e. (λ d. run_cells f a.w (pos i) (pos a.j) (v.3 d) (v.4 d) (v.5 d) x y k) ∙ let-in f a.w i a.j (square-is c.before w.0.taken) x y k e))
           r.0;
       low = r.1;
       high = r.2;
@@ -126,7 +126,7 @@ here c =
     (λ w.
     subst₂ D (sym w.1) (sym w.2)
     (record {
-      draws = draws-nothing a.g (oneColumn i a.j) (cellPasses f a.w) l.loop.map (ruled_out f a.w i a.j (square-is c.before w.0.left));
+      draws = draws-nothing a.g (one_column i a.j) (cell_passes f a.w) l.loop.map (ruled_out f a.w i a.j (square-is c.before w.0.left));
       low = v.2.low;
       high = v.2.high;
     }))

@@ -1,9 +1,9 @@
 -- `desk::desk_bar` meets its contract, case by case of the search's answer. Assumes nothing.
 use borrow.Author.Rules.{rules}
 use mathlib.Core.Path.{◌≡◌, refl, sym, ap, ◌∙◌, subst}
-use Rattle.refusal.specs.Limit.{gives, saidLimit}
+use Rattle.refusal.specs.Limit.{gives, said_limit}
 use Rattle.service.specs.declared.BarAnswer.{BarAnswer}
-use Rattle.service.specs.Bar.{clear, bar, behind, saidBar, Shown}
+use Rattle.service.specs.Bar.{clear, bar, behind, said_bar, Shown}
 use Rattle.desk.proofs.Bars.{told, bar-left}
 use Rattle.desk.proofs.desk_bar.Statement.{statement}
 use Rattle.desk.proofs.desk_bar.Tie as tie
@@ -13,8 +13,8 @@ module _ (k : tie.After-behind) where
   abbrev s : tie.Start
   s = k.before.before
 
-  said : {a : BarAnswer} → k.behind.result ≡ a → saidBar a ≡ behind s.args.file.now s.args.cell
-  said e = sym (ap saidBar e) ∙ k.behind.ensures.0
+  said : {a : BarAnswer} → k.behind.result ≡ a → said_bar a ≡ behind s.args.file.now s.args.cell
+  said e = sym (ap said_bar e) ∙ k.behind.ensures.0
 
   shown : {a : BarAnswer} → k.behind.result ≡ a → Shown s.args.file.now s.args.cell a
   shown e = subst (Shown s.args.file.now s.args.cell) e k.behind.ensures.1
@@ -44,7 +44,7 @@ returns-3 c =
     let k = arm.before.before in
     let a = (s k).args in
     let e = arm.limit.given.1 in
-    told a.file.now a.cell a.weights.now (saidLimit arm.limit.given.0.0) a.weights.now (said k e) c.pack-limit.ensures refl
+    told a.file.now a.cell a.weights.now (said_limit arm.limit.given.0.0) a.weights.now (said k e) c.pack-limit.ensures refl
 
 pub desk-bar-spec : {M : Type 1} → statement M
 desk-bar-spec =

@@ -8,12 +8,12 @@ use lib.IntN.{ℤ}
 use lib.Signed.{lt_z}
 use Rattle.integers.proofs.Expr.{Expr, var, neg, ◌⊕◌, ◌⊖◌, eval}
 use Rattle.integers.proofs.Machine.{asks, mach, run, small, tested}
-use Rattle.entry.specs.Inner.{entryBounds, axisEntry, axisEntryOf}
+use Rattle.entry.specs.Inner.{entry_bounds, axis_entry, axis_entry_of}
 use Rattle.entry.proofs.axis_entry.Statement.{statement}
 use Rattle.entry.proofs.axis_entry.Tie as tie
 
 abbrev bs : List ℕ
-bs = entryBounds
+bs = entry_bounds
 
 abbrev ρ : tie.Start → List ℤ
 ρ c = let a = c.args in a.a ∷ a.b ∷ a.first ∷ a.step ∷ a.extent ∷ []
@@ -36,21 +36,21 @@ module _ (s : tie.Start) where
 
   -- an entry by three expressions
   value : (n m d : Expr) → T (small n bs) → T (small m bs) → T (small d bs)
-      → axisEntry (mach (ρ s) n) (mach (ρ s) m) (mach (ρ s) d) ≡ axisEntry (eval (ρ s) n) (eval (ρ s) m) (eval (ρ s) d)
-  value n m d tn tm td = λ i. axisEntry (run (ρ s) n bs tn s.pre i) (run (ρ s) m bs tm s.pre i) (run (ρ s) d bs td s.pre i)
+      → axis_entry (mach (ρ s) n) (mach (ρ s) m) (mach (ρ s) d) ≡ axis_entry (eval (ρ s) n) (eval (ρ s) m) (eval (ρ s) d)
+  value n m d tn tm td = λ i. axis_entry (run (ρ s) n bs tn s.pre i) (run (ρ s) m bs tm s.pre i) (run (ρ s) d bs td s.pre i)
 
 returns : tie.Need-returns
-unfolding axisEntryOf
+unfolding axis_entry_of
 returns c = let s = c.before in rw (up s c.if1.true) (value s (var 2 ⊖ A) (var 3) (B ⊖ A) tt tt tt)
 
 returns-2 : tie.Need-returns-2
-unfolding axisEntryOf
+unfolding axis_entry_of
 returns-2 c =
     let s = c.before.before in
     rw (up s c.before.if1.false, down s c.if2.true) (value s far (neg (var 3)) (A ⊖ B) tt tt tt)
 
 returns-3 : tie.Need-returns-3
-unfolding axisEntryOf
+unfolding axis_entry_of
 returns-3 c = let s = c.before.before in rw (up s c.before.if1.false, down s c.if2.false)
 
 pub axis-entry-spec : {M : Type 1} → statement M

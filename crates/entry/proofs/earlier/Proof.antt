@@ -8,12 +8,12 @@ use Rattle.integers.specs.Within.{Withins}
 use Rattle.integers.proofs.Expr.{Expr, var, ◌⊗◌}
 use Rattle.integers.proofs.Machine.{asks, run}
 use Rattle.geometry.specs.Bounds.{each}
-use Rattle.entry.specs.Inner.{fractionMax}
+use Rattle.entry.specs.Inner.{fraction_max}
 use Rattle.entry.proofs.earlier.Statement.{statement}
 use Rattle.entry.proofs.earlier.Tie as tie
 
 abbrev bs : List ℕ
-bs = each fractionMax 4 []
+bs = each fraction_max 4 []
 
 abbrev ρ : tie.Start → List ℤ
 ρ c = let f = c.args.f in let g = c.args.g in f.num ∷ f.den ∷ g.num ∷ g.den ∷ []

@@ -1,7 +1,7 @@
 -- `entry::entry_at` meets its contract: the axes in turn. Assumes nothing.
 use mathlib.Core.Path.{◌∙◌}
 use Rattle.entry.specs.Entry.{later}
-use Rattle.entry.specs.Inner.{entryBy, BoundedFraction}
+use Rattle.entry.specs.Inner.{entry_by, BoundedFraction}
 use Rattle.entry.proofs.Boxes.{start-bounded, layer-bounded, later-bounded, by-bounded}
 use Rattle.entry.proofs.entry_at.Statement.{statement}
 use Rattle.entry.proofs.entry_at.Tie as tie
@@ -17,7 +17,7 @@ returns c =
     let s = c.before.before.before in
     let e = s.args.c in
     c.later-by3.ensures
-    ∙ (λ i. later ((c.before.later-by2.ensures ∙ (λ k. later (c.before.before.later-by.ensures k) (entryBy e.y s.args.j))) i) (entryBy e.x s.args.i))
+    ∙ (λ i. later ((c.before.later-by2.ensures ∙ (λ k. later (c.before.before.later-by.ensures k) (entry_by e.y s.args.j))) i) (entry_by e.x s.args.i))
 
 pub entry-at-spec : {M : Type 1} → statement M
 entry-at-spec =

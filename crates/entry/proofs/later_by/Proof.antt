@@ -8,10 +8,10 @@ use lib.IntN.{ℤ, ◌+ℤ◌, ◌*ℤ◌}
 use Rattle.integers.specs.Within.{Withins}
 use Rattle.integers.proofs.Expr.{Expr, var, ◌⊕◌, ◌⊗◌}
 use Rattle.integers.proofs.Machine.{Asks, asks, mach, run}
-use Rattle.geometry.specs.Bounds.{stepMax, indexMax}
+use Rattle.geometry.specs.Bounds.{step_max, index_max}
 use Rattle.entry.specs.declared.Fraction.{Fraction}
 use Rattle.entry.specs.Entry.{over, earlier, later}
-use Rattle.entry.specs.Inner.{axisEntryMax, entryBy, BoundedFraction}
+use Rattle.entry.specs.Inner.{axis_entry_max, entry_by, BoundedFraction}
 use Rattle.entry.proofs.Boxes.{by-bounded}
 use Rattle.entry.proofs.later_by.Statement.{statement}
 use Rattle.entry.proofs.later_by.Tie as tie
@@ -20,7 +20,7 @@ abbrev ρ : tie.After-from-index → List ℤ
 ρ c = let a = c.before.args in a.c.num ∷ a.c.slope ∷ c.from-index.result ∷ a.c.den ∷ []
 
 abbrev bs : List ℕ
-bs = axisEntryMax ∷ stepMax ∷ indexMax ∷ axisEntryMax ∷ []
+bs = axis_entry_max ∷ step_max ∷ index_max ∷ axis_entry_max ∷ []
 
 ins : (c : tie.After-from-index) → Withins bs (ρ c)
 ins c =
@@ -39,7 +39,7 @@ module _ (c : tie.After-from-index) where
   abbrev g : Fraction
   g = over (mach (ρ c) num) (mach (ρ c) (var 3))
 
-  g-is : g ≡ entryBy c.before.args.c c.before.args.i
+  g-is : g ≡ entry_by c.before.args.c c.before.args.i
   g-is =
       let e = c.before.args.c in
       λ i. over ((run (ρ c) num bs tt (ins c) ∙ ap (λ (z : ℤ). e.num +ℤ e.slope *ℤ z) c.from-index.ensures) i) (run (ρ c) (var 3) bs tt (ins c) i)
@@ -48,7 +48,7 @@ module _ (c : tie.After-from-index) where
   g-bounded = rw g-is (let p = c.before.requires in by-bounded p.1 p.2)
 
   -- the greater, by the test
-  greater : {t : Bool} {r : Fraction} → let f = c.before.args.f in earlier f g ≡ t → r ≡ cond t g f → r ≡ later f (entryBy c.before.args.c c.before.args.i)
+  greater : {t : Bool} {r : Fraction} → let f = c.before.args.f in earlier f g ≡ t → r ≡ cond t g f → r ≡ later f (entry_by c.before.args.c c.before.args.i)
   unfolding later
   greater {t} {r} e is =
       let f = c.before.args.f in

@@ -5,9 +5,9 @@ use lib.IntN.{ℤ}
 use Rattle.integers.specs.Within.{Withins}
 use Rattle.integers.proofs.Expr.{Expr, var, nth}
 use Rattle.integers.proofs.Machine.{bounded, learnt, machs}
-use Rattle.geometry.specs.Geometry.{Axis, xOf, yOf, z_of}
+use Rattle.geometry.specs.Geometry.{Axis, x_of, y_of, z_of}
 use Rattle.entry.specs.declared.AxisEntry.{AxisEntry}
-use Rattle.entry.specs.Inner.{entryBounds, axisEntryOf}
+use Rattle.entry.specs.Inner.{entry_bounds, axis_entry_of}
 use Rattle.entry.proofs.leg_entries.Statement.{statement}
 use Rattle.entry.proofs.leg_entries.Tie as tie
 
@@ -15,26 +15,26 @@ abbrev es : List Expr
 es = var 0 ∷ var 1 ∷ var 2 ∷ var 3 ∷ var 4 ∷ []
 
 abbrev On : AxisEntry → List ℤ → Type 0
-On r l = r ≡ axisEntryOf (nth l 0) (nth l 1) (nth l 2) (nth l 3) (nth l 4)
+On r l = r ≡ axis_entry_of (nth l 0) (nth l 1) (nth l 2) (nth l 3) (nth l 4)
 
 module _ (s : tie.Start) where
   abbrev ρ : Axis → List ℤ
   ρ c = let a = s.args in c a.a ∷ c a.b ∷ c a.l.first ∷ a.l.step ∷ a.l.extent ∷ []
 
-  in-x : Withins entryBounds (ρ xOf)
+  in-x : Withins entry_bounds (ρ x_of)
   in-x = let p = s.pre in (p.0.x, (p.1.x, (p.2.first.x, (p.2.step, (p.2.extent, tt)))))
 
-  in-y : Withins entryBounds (ρ yOf)
+  in-y : Withins entry_bounds (ρ y_of)
   in-y = let p = s.pre in (p.0.y, (p.1.y, (p.2.first.y, (p.2.step, (p.2.extent, tt)))))
 
-  in-z : Withins entryBounds (ρ z_of)
+  in-z : Withins entry_bounds (ρ z_of)
   in-z = let p = s.pre in (p.0.z, (p.1.z, (p.2.first.z, (p.2.step, (p.2.extent, tt)))))
 
-  asked : (c : Axis) → Withins entryBounds (ρ c) → Withins entryBounds (machs (ρ c) es)
-  asked c h = bounded (ρ c) es entryBounds entryBounds tt h
+  asked : (c : Axis) → Withins entry_bounds (ρ c) → Withins entry_bounds (machs (ρ c) es)
+  asked c h = bounded (ρ c) es entry_bounds entry_bounds tt h
 
-  on : (c : Axis) {r : AxisEntry} → Withins entryBounds (ρ c) → On r (machs (ρ c) es) → On r (ρ c)
-  on c {r} h e = learnt (ρ c) (On r) es entryBounds tt h e
+  on : (c : Axis) {r : AxisEntry} → Withins entry_bounds (ρ c) → On r (machs (ρ c) es) → On r (ρ c)
+  on c {r} h e = learnt (ρ c) (On r) es entry_bounds tt h e
 
 -- each place, from the one behind it
 abbrev at_x : tie.After-struct-told5 → tie.Start
@@ -53,8 +53,8 @@ returns c =
     let first = second.before.before.before.before in
     let s = at-z third in
     λ i. record {
-      x = on s xOf (in-x s) first.axis-entry.ensures i;
-      y = on s yOf (in-y s) second.axis-entry2.ensures i;
+      x = on s x_of (in-x s) first.axis-entry.ensures i;
+      y = on s y_of (in-y s) second.axis-entry2.ensures i;
       z = on s z_of (in-z s) c.axis-entry3.ensures i;
     }
 
@@ -62,7 +62,7 @@ pub leg-entries-spec : {M : Type 1} → statement M
 leg-entries-spec =
     tie.close
     (tie.spec
-    (λ c κs. let s = at_x c in asked s xOf (in-x s))
-    (λ c κs. let s = at_y c in asked s yOf (in-y s))
+    (λ c κs. let s = at_x c in asked s x_of (in-x s))
+    (λ c κs. let s = at_y c in asked s y_of (in-y s))
     (λ c κs. let s = at-z c in asked s z_of (in-z s))
     returns)

@@ -7,11 +7,11 @@ use native.Mathlib.Omega.{arith}
 use lib.ListN.{length, drop, replicate}
 use Rattle.refusal.specs.Limit.{gives}
 use Rattle.layout.specs.declared.Header.{Header}
-use Rattle.grid.specs.Grid.{cellCount}
-use Rattle.frame.specs.File.{headerOf}
+use Rattle.grid.specs.Grid.{cell_count}
+use Rattle.frame.specs.File.{header_of}
 use Rattle.frame.proofs.Accepted.{AcceptedFile, accepted, header_is}
-use Rattle.map.specs.Map.{mapLength, isFilled, countBelow}
-use Rattle.fill.specs.Fill.{gridOf, filledIn}
+use Rattle.map.specs.Map.{map_length, is_filled, count_below}
+use Rattle.fill.specs.Fill.{grid_of, filled_in}
 use Rattle.fill.specs.Inner.{AddsRecords}
 use Rattle.triangles.specs.Add.{Adds}
 use Rattle.fill.proofs.Triangles.{adds-all}
@@ -26,8 +26,8 @@ file-is : (s : tie.Start) → AcceptedFile s.args.file.now s.args.header
 file-is s = accepted s.args.file.now s.args.header s.requires
 
 -- the map's length
-long : (c : tie.After-map-length) → c.map-length.result ≡ mapLength (cellCount (start c).args.header.grid)
-long c = c.map-length.ensures ∙ ap mapLength c.before.cell-count.ensures.0
+long : (c : tie.After-map-length) → c.map-length.result ≡ map_length (cell_count (start c).args.header.grid)
+long c = c.map-length.ensures ∙ ap map_length c.before.cell-count.ensures.0
 
 returns : tie.Need-returns
 returns c =
@@ -38,7 +38,7 @@ returns c =
 
 -- the cleared map, to which the triangles were added
 added : (c : tie.After-fill-records) → let m = c.before.before.before.before.before.before.before in let s = start m in
-    let len = mapLength (cellCount s.args.header.grid) in
+    let len = map_length (cell_count s.args.header.grid) in
     AddsRecords s.args.file.now 0 s.args.header.count (replicate len 0 ++ drop len s.args.map.now) c.fill-records.new.1.1.1.1.0
 added c =
     let k = c.before.before.before.before in
@@ -58,13 +58,13 @@ returns-2 c =
     let room = rw (long m) at e.if1.false in
     let (said, left) = fill-passed file old s.args.header s.pre room in
     let new = f.fill-records.new.1.1.1.1.0 in
-    let is : s.args.header ≡ headerOf file = sym (header_is file s.args.header s.pre) in
-    let cells = cellCount (gridOf file) in
-    let here : mapLength cells ≤ length old = subst (λ (h : Header). mapLength (cellCount h.grid) ≤ length old) is room in
-    let adds : Adds cells (filledIn file) (replicate (mapLength cells) 0 ++ drop (mapLength cells) old) new =
-    adds-all file (subst (λ (h : Header). let n = mapLength (cellCount h.grid) in AddsRecords file 0 h.count (replicate n 0 ++ drop n old) new) is (added f)) in (
-      ap gives (c.count.ensures ∙ ap (countBelow (isFilled new)) (m.before.cell-count.ensures.0 ∙ ap (λ (h : Header). cellCount h.grid) is) ∙ fill-count (filledIn file) cells old new here adds) ∙ sym said,
-      fill-bytes (filledIn file) cells old new here adds (λ i. omega (arith, m.before.before.slice-known.given i)) (λ i. omega (arith, c.before.before.slice-known3.given i)) ∙ sym left,
+    let is : s.args.header ≡ header_of file = sym (header_is file s.args.header s.pre) in
+    let cells = cell_count (grid_of file) in
+    let here : map_length cells ≤ length old = subst (λ (h : Header). map_length (cell_count h.grid) ≤ length old) is room in
+    let adds : Adds cells (filled_in file) (replicate (map_length cells) 0 ++ drop (map_length cells) old) new =
+    adds-all file (subst (λ (h : Header). let n = map_length (cell_count h.grid) in AddsRecords file 0 h.count (replicate n 0 ++ drop n old) new) is (added f)) in (
+      ap gives (c.count.ensures ∙ ap (count_below (is_filled new)) (m.before.cell-count.ensures.0 ∙ ap (λ (h : Header). cell_count h.grid) is) ∙ fill-count (filled_in file) cells old new here adds) ∙ sym said,
+      fill-bytes (filled_in file) cells old new here adds (λ i. omega (arith, m.before.before.slice-known.given i)) (λ i. omega (arith, c.before.before.slice-known3.given i)) ∙ sym left,
     )
 
 pub fill-checked-spec : {M : Type 1} → statement M

@@ -8,17 +8,17 @@ use native.Mathlib.Omega.{arith}
 use Rattle.geometry.specs.declared.Triangle.{Triangle}
 use Rattle.grid.specs.declared.Grid.{Grid}
 use Rattle.grid.specs.declared.Lattice.{Lattice}
-use Rattle.grid.specs.Grid.{cellCount, latticeOf}
-use Rattle.overlap.specs.Cells.{overlapsCell}
+use Rattle.grid.specs.Grid.{cell_count, lattice_of}
+use Rattle.overlap.specs.Cells.{overlaps_cell}
 use Rattle.map.specs.Map.{tabulate}
 use Rattle.layout.specs.declared.Header.{Header}
 use Rattle.layout.specs.declared.Record.{Record}
-use Rattle.frame.specs.File.{recordOf}
+use Rattle.frame.specs.File.{record_of}
 use Rattle.frame.proofs.Accepted.{AcceptedFile, accepted, header_is, usable}
 use Rattle.frame.proofs.Triangles.{triangle-bounded}
 use Rattle.triangles.specs.Add.{Adds, AddsTriangle}
 use Rattle.fill.specs.Fill.{any_of}
-use Rattle.fill.specs.Part.{trianglesFrom}
+use Rattle.fill.specs.Part.{triangles_from}
 use Rattle.fill.proofs.Ready.{ready-grid}
 use Rattle.fill.proofs.Triangles.{adds_none, adds-more}
 use Rattle.fill.proofs.fill_records.Statement.{statement}
@@ -26,13 +26,13 @@ use Rattle.fill.proofs.fill_records.Tie as tie
 
 -- the triangle of record first + i, and whether it overlaps cell n
 abbrev record-at : List ℕ → (first i : ℕ) → Triangle
-record-at file first i = (recordOf file (first + i)).triangle
+record-at file first i = (record_of file (first + i)).triangle
 
 abbrev fills : Grid → Lattice → ℕ → Triangle → Bool
-fills g l n t = overlapsCell g l t n
+fills g l n t = overlaps_cell g l t n
 
 abbrev invariant-loop : tie.invariant-loop
-invariant-loop file first count map₀ g l i₀ map i = (i ≤ count) × Adds (cellCount g) (λ n. any_of (fills g l n) (tabulate (record-at file first) i)) map₀ map
+invariant-loop file first count map₀ g l i₀ map i = (i ≤ count) × Adds (cell_count g) (λ n. any_of (fills g l n) (tabulate (record-at file first) i)) map₀ map
 
 abbrev decreases-loop : tie.decreases-loop
 decreases-loop file first count map₀ g l i₀ map i = count - i
@@ -59,13 +59,13 @@ loop-again c =
     let s = start g in
     let boxes = g.lattice-of.result in (
       omega arith,
-      adds-more (fills s.args.header.grid boxes) (record-at s.args.file.now s.args.first) (cellCount s.args.header.grid) l.loop.i l.loop.invariant.1
+      adds-more (fills s.args.header.grid boxes) (record-at s.args.file.now s.args.first) (cell_count s.args.header.grid) l.loop.i l.loop.invariant.1
           (subst (λ (x : Record). AddsTriangle s.args.header.grid boxes x.triangle l.loop.map f.fill-triangle.new.0) r.record.ensures f.fill-triangle.ensures),
     )
 
 -- all triangles, of the file's own grid
 returns : tie.Need-returns invariant-loop decreases-loop
-unfolding trianglesFrom
+unfolding triangles_from
 returns c =
     let l = c.before in
     let g = l.before in
@@ -73,8 +73,8 @@ returns c =
     let file = s.args.file.now in
     let all : l.loop.i ≡ s.args.count = omega arith in
     let g₀ = s.args.header.grid in
-    let whole = subst₂ (λ (x : Lattice) (i : ℕ). Adds (cellCount g₀) (λ n. any_of (fills g₀ x n) (tabulate (record-at file s.args.first) i)) s.args.map.now l.loop.map) g.lattice-of.ensures all l.loop.invariant.1 in
-    subst (λ (h : Header). Adds (cellCount h.grid) (λ n. any_of (fills h.grid (latticeOf h.grid) n) (tabulate (record-at file s.args.first) s.args.count)) s.args.map.now l.loop.map)
+    let whole = subst₂ (λ (x : Lattice) (i : ℕ). Adds (cell_count g₀) (λ n. any_of (fills g₀ x n) (tabulate (record-at file s.args.first) i)) s.args.map.now l.loop.map) g.lattice-of.ensures all l.loop.invariant.1 in
+    subst (λ (h : Header). Adds (cell_count h.grid) (λ n. any_of (fills h.grid (lattice_of h.grid) n) (tabulate (record-at file s.args.first) s.args.count)) s.args.map.now l.loop.map)
     (sym (header_is file s.args.header s.pre.0)) whole
 
 pub fill-records-spec : {M : Type 1} → statement M
@@ -84,7 +84,7 @@ fill-records-spec =
     invariant-loop
     decreases-loop
     (λ c κs. search rules)
-    (λ c. let s = start c in (omega arith, adds_none (fills s.args.header.grid c.lattice-of.result) (record-at s.args.file.now s.args.first) (cellCount s.args.header.grid) s.args.map.now))
+    (λ c. let s = start c in (omega arith, adds_none (fills s.args.header.grid c.lattice-of.result) (record-at s.args.file.now s.args.first) (cell_count s.args.header.grid) s.args.map.now))
     (λ c. omega (arith, (start c.before.before).pre.1, (file-is c.before.before).count))
     (λ c κs. (file-is c.before.before).records _ (omega (arith, (start c.before.before).pre.1, c.loop-test.true)))
     fill-triangle-requires

@@ -7,25 +7,25 @@ use native.Mathlib.Omega.{arith}
 use Rattle.integers.proofs.Laws.{<→≤}
 use Rattle.geometry.specs.Geometry.{leg, cube}
 use Rattle.grid.specs.declared.Lattice.{Lattice}
-use Rattle.grid.specs.Cells.{xOfCell, yOfCell, zOfCell}
-use Rattle.grid.specs.Grid.{cellCount, latticeOf, cornerOf}
+use Rattle.grid.specs.Cells.{x_of_cell, y_of_cell, z_of_cell}
+use Rattle.grid.specs.Grid.{cell_count, lattice_of, corner_of}
 use Rattle.grid.specs.Usable.{UsableLattice}
 use Rattle.grid.proofs.Usable.{usable-boxes}
 use Rattle.grid.proofs.Numbers.{x_lt, y-lt, z-lt}
-use Rattle.map.specs.Map.{isFilled}
+use Rattle.map.specs.Map.{is_filled}
 use Rattle.ranges.specs.Range.{PicksBox}
 use Rattle.legs.specs.declared.Slabs.{Slabs}
-use Rattle.legs.specs.Slab.{slabsOf, BoundedSlabs}
+use Rattle.legs.specs.Slab.{slabs_of, BoundedSlabs}
 use Rattle.legs.proofs.Legs.{leg-by-range}
 use Rattle.legs.proofs.Sizes.{slabs-bounded}
 use Rattle.entry.specs.declared.Entries.{Entries}
-use Rattle.entry.specs.Inner.{entriesOf, entryAt, BoundedEntries}
+use Rattle.entry.specs.Inner.{entries_of, entry_at, BoundedEntries}
 use Rattle.entry.proofs.Boxes.{entry-is, entries-bounded}
 use Rattle.entry.proofs.Least.{entry-positive}
 use Rattle.touch.specs.declared.Found.{Found}
 use Rattle.touch.specs.declared.Found.TheVariants.{Nothing}
 use Rattle.touch.specs.Inner.{in_block, wanted, InGrid, Lowest}
-use Rattle.first_hit.specs.FirstHit.{filledAndTouched, entryOfCell, firstHit}
+use Rattle.first_hit.specs.FirstHit.{filled_and_touched, entry_of_cell, first_hit}
 use Rattle.first_hit.proofs.Nearest.{found_none, nearest-same}
 use Rattle.first_hit.proofs.first_hit.Statement.{statement}
 use Rattle.first_hit.proofs.first_hit.Tie as tie
@@ -39,13 +39,13 @@ at c = start c.before
 boxes : (c : tie.After-lattice-of) → UsableLattice c.lattice-of.result
 boxes c = rw c.lattice-of.ensures (usable-boxes c.before.before.pre.0)
 
-picks : (c : tie.After-box-range) → let a = (start c).args in PicksBox (leg a.a a.b) (latticeOf a.g) a.g.nx a.g.ny a.g.nz c.box-range.result
+picks : (c : tie.After-box-range) → let a = (start c).args in PicksBox (leg a.a a.b) (lattice_of a.g) a.g.nx a.g.ny a.g.nz c.box-range.result
 picks c =
     let a = (start c).args in
     subst (λ (l : Lattice). PicksBox (leg a.a a.b) l a.g.nx a.g.ny a.g.nz c.box-range.result) c.before.lattice-of.ensures c.box-range.ensures
 
-slabs : (c : tie.After-leg-slabs) → let a = (at c).args in c.leg-slabs.result ≡ slabsOf (latticeOf a.g) a.a a.b
-slabs c = let a = (at c).args in c.leg-slabs.ensures ∙ ap (λ (l : Lattice). slabsOf l a.a a.b) c.before.before.lattice-of.ensures
+slabs : (c : tie.After-leg-slabs) → let a = (at c).args in c.leg-slabs.result ≡ slabs_of (lattice_of a.g) a.a a.b
+slabs c = let a = (at c).args in c.leg-slabs.ensures ∙ ap (λ (l : Lattice). slabs_of l a.a a.b) c.before.before.lattice-of.ensures
 
 slabs-ready : (c : tie.After-leg-slabs) → BoundedSlabs c.leg-slabs.result
 slabs-ready c = let s = at c in subst BoundedSlabs (sym (slabs c)) (slabs-bounded s.pre.2 s.pre.3 (usable-boxes s.pre.0))
@@ -54,43 +54,43 @@ in-grid : (c : tie.After-box-range) → InGrid (start c).args.g c.box-range.resu
 in-grid c = let r = picks c in record { x-from = r.x.ordered; y-from = r.y.ordered; x = r.x.within; y = r.y.within; z = r.z.within }
 
 -- a cell lies in the leg's box and in its slabs exactly where the overlap rule holds
-same : (c : tie.After-leg-slabs) → let a = (at c).args in (n : ℕ) → n < cellCount a.g
-    → wanted (isFilled a.map.now) a.g c.leg-slabs.result c.before.box-range.result n ≡ filledAndTouched (isFilled a.map.now) a.g a.a a.b n
+same : (c : tie.After-leg-slabs) → let a = (at c).args in (n : ℕ) → n < cell_count a.g
+    → wanted (is_filled a.map.now) a.g c.leg-slabs.result c.before.box-range.result n ≡ filled_and_touched (is_filled a.map.now) a.g a.a a.b n
 same c n l =
     let s = at c in
     let a = s.args in
     let g = a.g in
     let w = s.pre.0.within in
-    let i = xOfCell g.nx n in
-    let j = yOfCell g.nx g.ny n in
-    let k = zOfCell g.nx g.ny n in
-    ap (λ (t : Bool). isFilled a.map.now n && t)
+    let i = x_of_cell g.nx n in
+    let j = y_of_cell g.nx g.ny n in
+    let k = z_of_cell g.nx g.ny n in
+    ap (λ (t : Bool). is_filled a.map.now n && t)
     (ap (λ (f : Slabs). in_block f c.before.box-range.result i j k) (slabs c)
-    ∙ sym (leg-by-range a.a a.b (latticeOf g) (<→≤ s.pre.0.positive) i j k (picks c.before) (x_lt g.nx g.ny n w.x.some) (y-lt g.nx g.ny n w.y.some) (z-lt g.nx g.ny g.nz n w.x.some w.y.some l)))
+    ∙ sym (leg-by-range a.a a.b (lattice_of g) (<→≤ s.pre.0.positive) i j k (picks c.before) (x_lt g.nx g.ny n w.x.some) (y-lt g.nx g.ny n w.y.some) (z-lt g.nx g.ny g.nz n w.x.some w.y.some l)))
 
 -- ---- the first search
 lowest : (c : tie.After-search) {r : Found} → c.search.result ≡ r → let a = (at c.before).args in
-    Lowest (wanted (isFilled a.map.now) a.g c.before.leg-slabs.result c.before.before.box-range.result) (cellCount a.g) r
+    Lowest (wanted (is_filled a.map.now) a.g c.before.leg-slabs.result c.before.before.box-range.result) (cell_count a.g) r
 lowest c e = let a = (at c.before).args in
-    subst (Lowest (wanted (isFilled a.map.now) a.g c.before.leg-slabs.result c.before.before.box-range.result) (cellCount a.g)) e c.search.ensures
+    subst (Lowest (wanted (is_filled a.map.now) a.g c.before.leg-slabs.result c.before.before.box-range.result) (cell_count a.g)) e c.search.ensures
 
 returns : tie.Need-returns
-unfolding firstHit
+unfolding first_hit
 returns c =
     let f = c.before.before in
     let a = (at f.before).args in
-    sym (found_none (filledAndTouched (isFilled a.map.now) a.g a.a a.b) (entryOfCell a.g a.a a.b)
-    (λ n. entry-positive a.a a.b (cornerOf a.g n) (cube a.g.edge)) (cellCount a.g) (λ m l. sym (same f.before m l) ∙ lowest f {r = Nothing} c.enum_told.given.1 m l))
+    sym (found_none (filled_and_touched (is_filled a.map.now) a.g a.a a.b) (entry_of_cell a.g a.a a.b)
+    (λ n. entry-positive a.a a.b (corner_of a.g n) (cube a.g.edge)) (cell_count a.g) (λ m l. sym (same f.before m l) ∙ lowest f {r = Nothing} c.enum_told.given.1 m l))
 
 -- ---- the second search
 abbrev searched : tie.After-leg-entries → tie.After-search
 searched c = c.before.before.before.before
 
-entries : (c : tie.After-leg-entries) → let a = (at (searched c).before).args in c.leg-entries.result ≡ entriesOf (latticeOf a.g) a.a a.b
+entries : (c : tie.After-leg-entries) → let a = (at (searched c).before).args in c.leg-entries.result ≡ entries_of (lattice_of a.g) a.a a.b
 entries c =
     let f = (searched c).before in
     let a = (at f).args in
-    c.leg-entries.ensures ∙ ap (λ (l : Lattice). entriesOf l a.a a.b) f.before.before.lattice-of.ensures
+    c.leg-entries.ensures ∙ ap (λ (l : Lattice). entries_of l a.a a.b) f.before.before.lattice-of.ensures
 
 search-requires-2 : tie.Need-search-requires-2
 search-requires-2 c κs =
@@ -108,18 +108,18 @@ search-requires-2 c κs =
     )
 
 returns-2 : tie.Need-returns-2
-unfolding firstHit
+unfolding first_hit
 returns-2 c =
     let e = c.before in
     let f = (searched e).before in
     let a = (at f).args in
     sym c.search2.ensures
-    ∙ nearest-same _ _ _ _ (cellCount a.g) (same f)
+    ∙ nearest-same _ _ _ _ (cell_count a.g) (same f)
     (λ n.
-    let i = xOfCell a.g.nx n in
-    let j = yOfCell a.g.nx a.g.ny n in
-    let k = zOfCell a.g.nx a.g.ny n in
-    ap (λ (x : Entries). entryAt x i j k) (entries e) ∙ entry-is (latticeOf a.g) a.a a.b i j k)
+    let i = x_of_cell a.g.nx n in
+    let j = y_of_cell a.g.nx a.g.ny n in
+    let k = z_of_cell a.g.nx a.g.ny n in
+    ap (λ (x : Entries). entry_at x i j k) (entries e) ∙ entry-is (lattice_of a.g) a.a a.b i j k)
 
 pub first-hit-spec : {M : Type 1} → statement M
 first-hit-spec =

@@ -5,11 +5,11 @@ use native.Mathlib.Nat.{div-le_self}
 use native.Mathlib.Omega.{arith}
 use Rattle.integers.proofs.Machine.{cases}
 use Rattle.grid.specs.declared.Grid.{Grid}
-use Rattle.grid.specs.Grid.{cellCount}
-use Rattle.grid.specs.Cells.{xOfCell, yOfCell, zOfCell}
+use Rattle.grid.specs.Grid.{cell_count}
+use Rattle.grid.specs.Cells.{x_of_cell, y_of_cell, z_of_cell}
 use Rattle.entry.specs.declared.Fraction.{Fraction}
 use Rattle.entry.specs.Entry.{earlier}
-use Rattle.entry.specs.Inner.{entryAt}
+use Rattle.entry.specs.Inner.{entry_at}
 use Rattle.entry.proofs.Boxes.{start-bounded, layer-bounded, at-positive}
 use Rattle.first_hit.specs.declared.Best.{Best}
 use Rattle.first_hit.specs.declared.Traversal.{Traversal}
@@ -41,7 +41,7 @@ module _ (s : Start) where
   h = s.args.t
 
   -- the lowest cell lies in the block
-  low : let n = s.args.n in Sought s.pre.0 (xOfCell h.g.nx n) (yOfCell h.g.nx h.g.ny n) (zOfCell h.g.nx h.g.ny n)
+  low : let n = s.args.n in Sought s.pre.0 (x_of_cell h.g.nx n) (y_of_cell h.g.nx h.g.ny n) (z_of_cell h.g.nx h.g.ny n)
   low = (sought-parts s.pre.0 s.args.n s.pre.1.1).1
 
   k-in : {k : ℕ} → k < h.block.z.end → k < 64
@@ -61,10 +61,10 @@ module _ (c : tie.After-remainder2 invariant-loop decreases-loop) where
   abbrev n : ℕ
   n = (start₀ c).args.n
 
-  j-is : c.before.before.remainder.result ≡ yOfCell g.nx g.ny n
+  j-is : c.before.before.remainder.result ≡ y_of_cell g.nx g.ny n
   j-is = c.before.before.remainder.ensures ∙ ap (λ (r : ℕ). r % g.ny) c.before.before.before.quotient.ensures
 
-  k-is : c.before.quotient2.result ≡ zOfCell g.nx g.ny n
+  k-is : c.before.quotient2.result ≡ z_of_cell g.nx g.ny n
   k-is = c.before.quotient2.ensures ∙ ap (λ (r : ℕ). r / g.ny) c.before.before.before.quotient.ensures
 
 entry-at-requires : tie.Need-entry-at-requires invariant-loop decreases-loop
@@ -88,7 +88,7 @@ loop-holds c =
       omega (arith, j-is p, w.y.0),
       omega (arith, j-is p, w.y.1),
       begin s.pre.1.1 s.pre.1.2 (rw (k-is p) (layer-low s.pre.0 s.args.n))
-          (c.entry_at.ensures ∙ (λ i. entryAt (h s).entries (p.remainder2.ensures i) (j-is p i) (k-is p i))),
+          (c.entry_at.ensures ∙ (λ i. entry_at (h s).entries (p.remainder2.ensures i) (j-is p i) (k-is p i))),
     )
 
 loop-again : tie.Need-loop-preserved invariant-loop decreases-loop
@@ -122,8 +122,8 @@ returns c =
     let v = l.loop.invariant in
     let g = (h s).g in
     let all = pass-layers r l.loop.k (omega (arith, c.if1.false)) (omega (arith, v.1, r.block.z)) v.4 in
-    first_found (sought s.args.map.now (h s)) (entered (h s)) (λ n. at-positive r.entries (xOfCell g.nx n) (yOfCell g.nx g.ny n) (zOfCell g.nx g.ny n))
-    (cellCount g) l.loop.best.cell (whole (below-count r l.loop.best.cell all.has) all)
+    first_found (sought s.args.map.now (h s)) (entered (h s)) (λ n. at-positive r.entries (x_of_cell g.nx n) (y_of_cell g.nx g.ny n) (z_of_cell g.nx g.ny n))
+    (cell_count g) l.loop.best.cell (whole (below-count r l.loop.best.cell all.has) all)
 
 pub search-spec : {M : Type 1} → statement M
 search-spec =

@@ -6,10 +6,10 @@ use native.Mathlib.Omega.{arith}
 use Rattle.integers.proofs.Machine.{cases}
 use Rattle.grid.specs.Range.{in_range}
 use Rattle.runs.proofs.Narrow.{in-range, range-in}
-use Rattle.legs.specs.Slab.{rowHolds}
+use Rattle.legs.specs.Slab.{row_holds}
 use Rattle.entry.specs.declared.Fraction.{Fraction}
 use Rattle.entry.specs.Entry.{earlier, later}
-use Rattle.entry.specs.Inner.{entryBy, rowEntry, entryAt}
+use Rattle.entry.specs.Inner.{entry_by, row_entry, entry_at}
 use Rattle.entry.proofs.Boxes.{layer-bounded, row-bounded}
 use Rattle.touch.proofs.Scan.{In, row_in}
 use Rattle.first_hit.specs.declared.Traversal.{Traversal}
@@ -44,7 +44,7 @@ module _ (s : Start) where
   given : {i n : ℕ} → Sought s.pre.0 i n s.args.k → In s.args.rows n
   given {n = n} w =
       in-range s.args.rows n
-      (s.pre.2.exact n ∙ (and-eq-true_iff (in_range h.block.y n) (rowHolds h.slabs s.args.k n)).1 (range-in h.block.y n w.y.0 w.y.1, w.row))
+      (s.pre.2.exact n ∙ (and-eq-true_iff (in_range h.block.y n) (row_holds h.slabs s.args.k n)).1 (range-in h.block.y n w.y.0 w.y.1, w.row))
 
   row_of : (j : ℕ) → s.args.rows.first ≤ j → j < s.args.rows.end → RowOf h j s.args.k
   row_of j l u = let r = row_in s.pre.2 j (l, u) in record { layer = s.pre.1; from = r.0.0; to = r.0.1; holds = r.1 }
@@ -60,11 +60,11 @@ loop-holds c =
     )
 
 -- the fraction at which the leg comes to the loop's row
-at-is : (c : tie.After-later-by invariant-loop decreases-loop) → let l = c.before.before.before in let s = start l in c.later-by.result ≡ rowEntry (h s).entries l.loop.j s.args.k
+at-is : (c : tie.After-later-by invariant-loop decreases-loop) → let l = c.before.before.before in let s = start l in c.later-by.result ≡ row_entry (h s).entries l.loop.j s.args.k
 at-is c =
     let l = c.before.before.before in
     let s = start l in
-    c.later-by.ensures ∙ ap (λ (f : Fraction). later f (entryBy (h s).entries.y l.loop.j)) s.pre.3
+    c.later-by.ensures ∙ ap (λ (f : Fraction). later f (entry_by (h s).entries.y l.loop.j)) s.pre.3
 
 earlier-requires : tie.Need-earlier-requires invariant-loop decreases-loop
 earlier-requires c κs =
@@ -94,7 +94,7 @@ loop-again c =
           (λ i m a b _ q.
           let same : m ≡ j = omega (arith, a, b) in
           late-row s.pre.0 v.2 i j s.args.k (ap (λ (f : Fraction). earlier f l.loop.best.at) (sym (at-is y)) ∙ sym t.earlier.ensures ∙ w.0.left)
-          (subst (λ (m : ℕ). earlier (entryAt (h s).entries i m s.args.k) l.loop.best.at ≡ true) same q)) v.2)),
+          (subst (λ (m : ℕ). earlier (entry_at (h s).entries i m s.args.k) l.loop.best.at ≡ true) same q)) v.2)),
     )
 
 returns : tie.Need-returns invariant-loop decreases-loop

@@ -7,16 +7,16 @@ use lib.ListN.{length}
 use Rattle.integers.proofs.Machine.{cases}
 use Rattle.integers.proofs.Truth.{apart}
 use Rattle.grid.specs.declared.CellRange.{CellRange}
-use Rattle.grid.specs.Grid.{cellCount}
+use Rattle.grid.specs.Grid.{cell_count}
 use Rattle.grid.specs.Range.{in_range}
 use Rattle.grid.proofs.Numbers.{number_lt}
-use Rattle.map.specs.Map.{isFilled}
+use Rattle.map.specs.Map.{is_filled}
 use Rattle.runs.specs.Run.{Narrows}
 use Rattle.runs.proofs.Narrow.{in-range, range-in}
-use Rattle.legs.specs.Slab.{columnHolds, cellHolds}
+use Rattle.legs.specs.Slab.{column_holds, cell_holds}
 use Rattle.entry.specs.declared.Fraction.{Fraction}
 use Rattle.entry.specs.Entry.{later}
-use Rattle.entry.specs.Inner.{entryBy, BoundedFraction}
+use Rattle.entry.specs.Inner.{entry_by, BoundedFraction}
 use Rattle.entry.proofs.Boxes.{row-bounded, later-bounded, by-bounded}
 use Rattle.touch.proofs.Scan.{In}
 use Rattle.first_hit.specs.declared.Best.{Best}
@@ -28,7 +28,7 @@ use Rattle.first_hit.proofs.search_row.Tie as tie
 
 abbrev invariant-loop : tie.invariant-loop
 invariant-loop h map coming j k entries cells row best₀ i₀ best i =
-    (cells.first ≤ i) × (i ≤ cells.end) × (i < cells.end → isFilled map (row + i) ≡ true) × FirstBelow (sought map h) (entered h) (row + i) best
+    (cells.first ≤ i) × (i ≤ cells.end) × (i < cells.end → is_filled map (row + i) ≡ true) × FirstBelow (sought map h) (entered h) (row + i) best
 
 abbrev decreases-loop : tie.decreases-loop
 decreases-loop h map coming j k entries cells row best₀ i₀ best i = cells.end - i
@@ -50,7 +50,7 @@ module _ (s : tie.Start invariant-loop decreases-loop) where
   abbrev h : Traversal
   h = s.args.t
 
-  i-in : {cells : CellRange} → Narrows h.block.x (columnHolds h.slabs s.args.j) cells → {i : ℕ} → i < cells.end → i < 64
+  i-in : {cells : CellRange} → Narrows h.block.x (column_holds h.slabs s.args.j) cells → {i : ℕ} → i < cells.end → i < 64
   i-in n l = let r = s.pre.0 in omega (arith, n.to, r.block.x, r.grid.within.x.most)
 
   j-in : s.args.j < 64
@@ -69,17 +69,17 @@ module _ (s : tie.Start invariant-loop decreases-loop) where
       rw s.pre.2 (row-bounded s.pre.0.entries (omega arith) (omega arith))
 
   -- a cell that is looked for is one of the cells in the slab in XY, and back
-  given : {cells : CellRange} → Narrows h.block.x (columnHolds h.slabs s.args.j) cells → {i : ℕ} → Sought s.pre.0 i s.args.j s.args.k → In cells i
-  unfolding cellHolds
+  given : {cells : CellRange} → Narrows h.block.x (column_holds h.slabs s.args.j) cells → {i : ℕ} → Sought s.pre.0 i s.args.j s.args.k → In cells i
+  unfolding cell_holds
   given {cells} n {i} w =
       in-range cells i
       (n.exact i
-      ∙ (and-eq-true_iff (in_range h.block.x i) (columnHolds h.slabs s.args.j i)).1 (range-in h.block.x i w.x.0 w.x.1, ((and-eq-true_iff _ _).0 w.cell).0))
+      ∙ (and-eq-true_iff (in_range h.block.x i) (column_holds h.slabs s.args.j i)).1 (range-in h.block.x i w.x.0 w.x.1, ((and-eq-true_iff _ _).0 w.cell).0))
 
-  looked : {cells : CellRange} → Narrows h.block.x (columnHolds h.slabs s.args.j) cells → (i : ℕ) → i < cells.end → cells.first ≤ i → cellHolds h.slabs i s.args.j s.args.k ≡ true → Sought s.pre.0 i s.args.j s.args.k
+  looked : {cells : CellRange} → Narrows h.block.x (column_holds h.slabs s.args.j) cells → (i : ℕ) → i < cells.end → cells.first ≤ i → cell_holds h.slabs i s.args.j s.args.k ≡ true → Sought s.pre.0 i s.args.j s.args.k
   looked n i u l e = let r = s.pre.1 in record { x = (omega (arith, l, n.from), omega (arith, u, n.to)); y = (r.from, r.to); z = (r.layer.from, r.layer.to); row = r.holds; cell = e }
 
-row_fits : (c : Row) → let g = (h (at_row c)).g in c.cell-number.result + g.nx ≤ cellCount g
+row_fits : (c : Row) → let g = (h (at_row c)).g in c.cell-number.result + g.nx ≤ cell_count g
 row_fits c =
     let s = at_row c in
     let g = (h s).g in
@@ -145,11 +145,11 @@ loop-again c =
           (λ w.
           subst (Next s r i) (sym (w.3 ∙ w.2.ensures))
           (meet-cell s.pre.0 s.args.j s.args.k (j-grid s) is i hi (v.2 u) (looked s some i u v.0 (test ∙ w.0.taken))
-          (w.1.ensures ∙ ap (λ (f : Fraction). later f (entryBy (h s).entries.x i)) s.pre.2) v.3))
+          (w.1.ensures ∙ ap (λ (f : Fraction). later f (entry_by (h s).entries.x i)) s.pre.2) v.3))
           (λ w.
           subst (Next s r i) (sym w.1)
           (pass-cells s.pre.0 s.args.j s.args.k (j-grid s) is i (i + 1) (omega arith) (omega (arith, hi))
-          (λ n a b _ q _. let same : n ≡ i = omega (arith, a, b) in apart (subst (λ (n : ℕ). cellHolds (h s).slabs n s.args.j s.args.k ≡ true) same q.cell) (test ∙ w.0.left)) v.3))),
+          (λ n a b _ q _. let same : n ≡ i = omega (arith, a, b) in apart (subst (λ (n : ℕ). cell_holds (h s).slabs n s.args.j s.args.k ≡ true) same q.cell) (test ∙ w.0.left)) v.3))),
     )
 
 pub search-row-spec : {M : Type 1} → statement M

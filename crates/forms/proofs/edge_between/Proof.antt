@@ -7,9 +7,9 @@ use mir.Syntax.{w64}
 use Rattle.integers.specs.Within.{Withins}
 use Rattle.integers.proofs.Expr.{Expr, var, ◌⊖◌, nth}
 use Rattle.integers.proofs.Machine.{back, asks, bounded, learnt}
-use Rattle.geometry.specs.Bounds.{offsetMax, normalMax, stepMax, extentMax, each}
+use Rattle.geometry.specs.Bounds.{offset_max, normal_max, step_max, extent_max, each}
 use Rattle.forms.specs.declared.EdgeForm.{EdgeForm}
-use Rattle.forms.specs.Triangle.{edgeForm, insideFrom, edgeBounds, insideBounds}
+use Rattle.forms.specs.Triangle.{edge_form, inside_from, edge_bounds, inside_bounds}
 use Rattle.forms.proofs.edge_between.Statement.{statement}
 use Rattle.forms.proofs.edge_between.Tie as tie
 
@@ -20,7 +20,7 @@ abbrev ρ : tie.Start → List ℤ
     a.n.x ∷ a.n.y ∷ a.n.z ∷ a.from.x ∷ a.from.y ∷ a.from.z ∷ a.to.x ∷ a.to.y ∷ a.to.z ∷ a.step ∷ a.extent ∷ []
 
 abbrev bs : List ℕ
-bs = each normalMax 3 (each offsetMax 6 (stepMax ∷ extentMax ∷ []))
+bs = each normal_max 3 (each offset_max 6 (step_max ∷ extent_max ∷ []))
 
 ins : (c : tie.Start) → Withins bs (ρ c)
 ins c =
@@ -53,10 +53,10 @@ abbrev square : List Expr
 square = var 2 ∷ x ∷ y ∷ var 10 ∷ []
 
 abbrev Form : EdgeForm → List ℤ → Type 0
-Form r l = r ≡ edgeForm (nth l 0) (nth l 1) (nth l 2) (nth l 3) (nth l 4) (nth l 5) (nth l 6)
+Form r l = r ≡ edge_form (nth l 0) (nth l 1) (nth l 2) (nth l 3) (nth l 4) (nth l 5) (nth l 6)
 
 abbrev From : ℤ → List ℤ → Type 0
-From r l = r ≡ insideFrom (nth l 0) (nth l 1) (nth l 2) (nth l 3)
+From r l = r ≡ inside_from (nth l 0) (nth l 1) (nth l 2) (nth l 3)
 
 -- the places, from the last to the first
 abbrev at0 : tie.After-struct-told7 → tie.Start
@@ -85,8 +85,8 @@ edge-between-spec =
     (λ c. let s = c.before.before.before.before.before in (asks (ρ s) x bs tt (ins s)).2)
     (λ c. let s = c.before.before.before.before.before.before.before in (asks (ρ s) y bs tt (ins s)).2)
     (λ c. let s = c.before.before.before.before.before.before.before.before.before in (asks (ρ s) z bs tt (ins s)).2)
-    (λ c κs. let s = at0 c in bounded (ρ s) (x ∷ y ∷ var 3 ∷ var 4 ∷ var 9 ∷ var 10 ∷ []) bs edgeBounds tt (ins s))
-    (λ c κs. let s = at0 c.before.before in bounded (ρ s) (y ∷ z ∷ var 4 ∷ var 5 ∷ var 9 ∷ var 10 ∷ []) bs edgeBounds tt (ins s))
-    (λ c κs. let s = at0 c.before.before.before.before in bounded (ρ s) (z ∷ x ∷ var 5 ∷ var 3 ∷ var 9 ∷ var 10 ∷ []) bs edgeBounds tt (ins s))
-    (λ c κs. let s = at0 c.before.before.before.before.before.before in bounded (ρ s) square bs insideBounds tt (ins s))
+    (λ c κs. let s = at0 c in bounded (ρ s) (x ∷ y ∷ var 3 ∷ var 4 ∷ var 9 ∷ var 10 ∷ []) bs edge_bounds tt (ins s))
+    (λ c κs. let s = at0 c.before.before in bounded (ρ s) (y ∷ z ∷ var 4 ∷ var 5 ∷ var 9 ∷ var 10 ∷ []) bs edge_bounds tt (ins s))
+    (λ c κs. let s = at0 c.before.before.before.before in bounded (ρ s) (z ∷ x ∷ var 5 ∷ var 3 ∷ var 9 ∷ var 10 ∷ []) bs edge_bounds tt (ins s))
+    (λ c κs. let s = at0 c.before.before.before.before.before.before in bounded (ρ s) square bs inside_bounds tt (ins s))
     returns)

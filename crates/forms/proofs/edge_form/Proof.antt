@@ -5,14 +5,14 @@ use Prim.Native.Nat.{ℕ, ◌^◌}
 use lib.IntN.{ℤ, pos, neg_ℤ, ◌*ℤ◌}
 use mir.Facts.{to_z-of_z}
 use Rattle.integers.specs.Within.{Withins}
-use Rattle.integers.specs.Order.{maxℤ}
+use Rattle.integers.specs.Order.{max_ℤ}
 use Rattle.integers.proofs.Expr.{Expr, var, neg, ◌⊕◌, ◌⊖◌, ◌⊗◌, eval}
 use Rattle.integers.proofs.Machine.{Asks, asks, run, bounded}
 use Rattle.integers.proofs.Bounds.{within-neg}
 use Rattle.integers.proofs.MinMax.{within-max}
-use Rattle.geometry.specs.Bounds.{differenceMax, each}
+use Rattle.geometry.specs.Bounds.{difference_max, each}
 use Rattle.overlap.specs.Rule.{turned}
-use Rattle.forms.specs.Triangle.{edgeForm, edgeBounds}
+use Rattle.forms.specs.Triangle.{edge_form, edge_bounds}
 use Rattle.forms.proofs.Sizes.{within-turned, within-zero}
 use Rattle.forms.proofs.edge_form.Statement.{statement}
 use Rattle.forms.proofs.edge_form.Tie as tie
@@ -23,16 +23,16 @@ abbrev ρ : tie.Start → List ℤ
 
 -- m, and the parameters
 a-is : (c : tie.After-turned) → c.turned.result ≡ turned c.before.args.n (neg_ℤ c.before.args.eb)
-a-is c = let s = c.before in c.turned.ensures ∙ ap₂ turned (to_z-of_z s.ranges.n) (run (ρ s) (neg (var 1)) edgeBounds tt s.requires)
+a-is c = let s = c.before in c.turned.ensures ∙ ap₂ turned (to_z-of_z s.ranges.n) (run (ρ s) (neg (var 1)) edge_bounds tt s.requires)
 
 b-is : (c : tie.After-turned2) → c.turned2.result ≡ turned c.before.before.args.n c.before.before.args.ea
-b-is c = let s = c.before.before in c.turned2.ensures ∙ ap₂ turned (to_z-of_z s.ranges.n) (run (ρ s) (var 0) edgeBounds tt s.requires)
+b-is c = let s = c.before.before in c.turned2.ensures ∙ ap₂ turned (to_z-of_z s.ranges.n) (run (ρ s) (var 0) edge_bounds tt s.requires)
 
 abbrev ρm : tie.After-turned2 → List ℤ
 ρm c = c.before.turned.result ∷ c.turned2.result ∷ ρ c.before.before
 
 abbrev bm : List ℕ
-bm = each differenceMax 2 edgeBounds
+bm = each difference_max 2 edge_bounds
 
 ins-m : (c : tie.After-turned2) → Withins bm (ρm c)
 ins-m c =
@@ -41,17 +41,17 @@ ins-m c =
     (rw (a-is c.before) (within-turned n (within-neg s.requires.1.0)), (rw (b-is c) (within-turned n s.requires.0), s.requires))
 
 -- how far a square reaches along m on each axis, m, and the parameters
-up-a : (c : tie.After-max) → c.max.result ≡ maxℤ (pos 0) c.before.before.turned.result
-up-a c = c.max.ensures ∙ ap (maxℤ (pos 0)) (run (ρm c.before) (var 0) bm tt (ins-m c.before))
+up-a : (c : tie.After-max) → c.max.result ≡ max_ℤ (pos 0) c.before.before.turned.result
+up-a c = c.max.ensures ∙ ap (max_ℤ (pos 0)) (run (ρm c.before) (var 0) bm tt (ins-m c.before))
 
-up-b : (c : tie.After-max2) → c.max2.result ≡ maxℤ (pos 0) c.before.before.turned2.result
-up-b c = let m = c.before.before in c.max2.ensures ∙ ap (maxℤ (pos 0)) (run (ρm m) (var 1) bm tt (ins-m m))
+up-b : (c : tie.After-max2) → c.max2.result ≡ max_ℤ (pos 0) c.before.before.turned2.result
+up-b c = let m = c.before.before in c.max2.ensures ∙ ap (max_ℤ (pos 0)) (run (ρm m) (var 1) bm tt (ins-m m))
 
 abbrev ρr : tie.After-max2 → List ℤ
 ρr c = c.before.max.result ∷ c.max2.result ∷ ρm c.before.before
 
 abbrev br : List ℕ
-br = each differenceMax 2 bm
+br = each difference_max 2 bm
 
 ins-r : (c : tie.After-max2) → Withins br (ρr c)
 ins-r c =
@@ -66,7 +66,7 @@ needed : (c : tie.After-max2) → Asks (ρr c) e
 needed c = asks (ρr c) e br tt (ins-r c)
 
 constant : (c : tie.After-max2) → let a = c.before.before.before.before.args in
-    eval (ρr c) e ≡ (edgeForm a.n a.ea a.eb a.va a.vb a.step a.extent).c
+    eval (ρr c) e ≡ (edge_form a.n a.ea a.eb a.va a.vb a.step a.extent).c
 constant c = let m = c.before.before in rw (up-a c.before, up-b c, a-is m.before, b-is m)
 
 returns : tie.Need-returns
@@ -83,9 +83,9 @@ pub edge-form-spec : {M : Type 1} → statement M
 edge-form-spec =
     tie.close
     (tie.spec
-    (λ c. (asks (ρ c) (neg (var 1)) edgeBounds tt c.requires).1)
-    (λ c κs. (bounded (ρ c) (neg (var 1) ∷ []) edgeBounds (2 ^ 62 ∷ []) tt c.requires).0)
-    (λ c κs. (bounded (ρ c.before) (var 0 ∷ []) edgeBounds (2 ^ 62 ∷ []) tt c.before.requires).0)
+    (λ c. (asks (ρ c) (neg (var 1)) edge_bounds tt c.requires).1)
+    (λ c κs. (bounded (ρ c) (neg (var 1) ∷ []) edge_bounds (2 ^ 62 ∷ []) tt c.requires).0)
+    (λ c κs. (bounded (ρ c.before) (var 0 ∷ []) edge_bounds (2 ^ 62 ∷ []) tt c.before.requires).0)
     (λ c κs. tt)
     (λ c κs. tt)
     (λ c. (needed c).0.1.2)

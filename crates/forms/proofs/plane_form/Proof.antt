@@ -4,14 +4,14 @@ use mathlib.Core.Path.{◌≡◌, ◌∙◌, ap, ap₂}
 use Prim.Native.Nat.{ℕ, ◌^◌}
 use lib.IntN.{ℤ, pos, nat_abs, ◌+ℤ◌, ◌-ℤ◌, ◌*ℤ◌}
 use Rattle.integers.specs.Within.{Withins}
-use Rattle.integers.specs.Order.{maxℤ}
+use Rattle.integers.specs.Order.{max_ℤ}
 use Rattle.integers.proofs.Expr.{Expr, var, ◌⊕◌, ◌⊖◌, ◌⊗◌, eval}
 use Rattle.integers.proofs.Machine.{Asks, asks, run, bounded}
 use Rattle.integers.proofs.MinMax.{within-max}
-use Rattle.geometry.specs.Bounds.{normalMax, each}
+use Rattle.geometry.specs.Bounds.{normal_max, each}
 use Rattle.geometry.specs.Geometry.{point}
 use Rattle.overlap.specs.Rule.{turned}
-use Rattle.forms.specs.Triangle.{planeForm, planeBounds}
+use Rattle.forms.specs.Triangle.{plane_form, plane_bounds}
 use Rattle.forms.proofs.Sizes.{within-turned, within-zero, within-size}
 use Rattle.forms.proofs.plane_form.Statement.{statement}
 use Rattle.forms.proofs.plane_form.Tie as tie
@@ -25,20 +25,20 @@ got : (s : tie.Start) (e : Expr) {r n m : ℤ} → n ≡ eval (ρ s) (var 2) →
 got s e h k q = q ∙ ap₂ turned h k
 
 x-is : (c : tie.After-turned) → c.turned.result ≡ turned c.before.args.nz c.before.args.nx
-x-is c = let s = c.before in got s (var 0) (run (ρ s) (var 2) planeBounds tt s.requires) (run (ρ s) (var 0) planeBounds tt s.requires) c.turned.ensures
+x-is c = let s = c.before in got s (var 0) (run (ρ s) (var 2) plane_bounds tt s.requires) (run (ρ s) (var 0) plane_bounds tt s.requires) c.turned.ensures
 
 y-is : (c : tie.After-turned2) → c.turned2.result ≡ turned c.before.before.args.nz c.before.before.args.ny
-y-is c = let s = c.before.before in got s (var 1) (run (ρ s) (var 2) planeBounds tt s.requires) (run (ρ s) (var 1) planeBounds tt s.requires) c.turned2.ensures
+y-is c = let s = c.before.before in got s (var 1) (run (ρ s) (var 2) plane_bounds tt s.requires) (run (ρ s) (var 1) plane_bounds tt s.requires) c.turned2.ensures
 
 z-is : (c : tie.After-turned3) → c.turned3.result ≡ turned c.before.before.before.args.nz c.before.before.before.args.nz
-z-is c = let s = c.before.before.before in got s (var 2) (run (ρ s) (var 2) planeBounds tt s.requires) (run (ρ s) (var 2) planeBounds tt s.requires) c.turned3.ensures
+z-is c = let s = c.before.before.before in got s (var 2) (run (ρ s) (var 2) plane_bounds tt s.requires) (run (ρ s) (var 2) plane_bounds tt s.requires) c.turned3.ensures
 
 -- it, and the parameters
 abbrev ρm : tie.After-turned3 → List ℤ
 ρm c = c.before.before.turned.result ∷ c.before.turned2.result ∷ c.turned3.result ∷ ρ c.before.before.before
 
 abbrev bm : List ℕ
-bm = each normalMax 3 planeBounds
+bm = each normal_max 3 plane_bounds
 
 ins-m : (c : tie.After-turned3) → Withins bm (ρm c)
 ins-m c =
@@ -47,11 +47,11 @@ ins-m c =
     (rw (x-is c.before.before) (within-turned n p.0), (rw (y-is c.before) (within-turned n p.1.0), (rw (z-is c) (within-turned n p.1.1.0), p)))
 
 -- the greater of 0 and a component, and its magnitude
-up-x : (c : tie.After-max) → c.max.result ≡ maxℤ (pos 0) c.before.before.before.turned.result
-up-x c = c.max.ensures ∙ ap (maxℤ (pos 0)) (run (ρm c.before) (var 0) bm tt (ins-m c.before))
+up-x : (c : tie.After-max) → c.max.result ≡ max_ℤ (pos 0) c.before.before.before.turned.result
+up-x c = c.max.ensures ∙ ap (max_ℤ (pos 0)) (run (ρm c.before) (var 0) bm tt (ins-m c.before))
 
-up-y : (c : tie.After-max2) → c.max2.result ≡ maxℤ (pos 0) c.before.before.before.turned2.result
-up-y c = let m = c.before.before in c.max2.ensures ∙ ap (maxℤ (pos 0)) (run (ρm m) (var 1) bm tt (ins-m m))
+up-y : (c : tie.After-max2) → c.max2.result ≡ max_ℤ (pos 0) c.before.before.before.turned2.result
+up-y c = let m = c.before.before in c.max2.ensures ∙ ap (max_ℤ (pos 0)) (run (ρm m) (var 1) bm tt (ins-m m))
 
 size-x : (c : tie.After-magnitude) → c.magnitude.result ≡ pos (nat_abs c.before.before.before.before.before.turned.result)
 size-x c = let m = c.before.before.before in c.magnitude.ensures ∙ ap (λ (z : ℤ). pos (nat_abs z)) (run (ρm m) (var 0) bm tt (ins-m m))
@@ -67,7 +67,7 @@ abbrev ρr : tie.After-magnitude2 → List ℤ
     u.before.max.result ∷ u.max2.result ∷ s.magnitude.result ∷ c.magnitude2.result ∷ ρm u.before.before
 
 abbrev br : List ℕ
-br = each normalMax 4 bm
+br = each normal_max 4 bm
 
 ins-r : (c : tie.After-magnitude2) → Withins br (ρr c)
 ins-r c =
@@ -94,19 +94,19 @@ abbrev turns : tie.After-magnitude2 → tie.After-turned3
 turns c = c.before.before.before.before
 
 at-is : (c : tie.After-magnitude2) → let a = (turns c).before.before.before.args in
-    eval (ρr c) at ≡ (planeForm (point a.nx a.ny a.nz) (point a.x a.y a.z) a.step a.extent).at
+    eval (ρr c) at ≡ (plane_form (point a.nx a.ny a.nz) (point a.x a.y a.z) a.step a.extent).at
 at-is c =
     let m = turns c in
     let a = m.before.before.before.args in
     let x = x-is m.before.before in
     let y = y-is m.before in
     let z = z-is m in
-    let ux = up-x c.before.before.before ∙ ap (maxℤ (pos 0)) x in
-    let uy = up-y c.before.before ∙ ap (maxℤ (pos 0)) y in
+    let ux = up-x c.before.before.before ∙ ap (max_ℤ (pos 0)) x in
+    let uy = up-y c.before.before ∙ ap (max_ℤ (pos 0)) y in
     λ i. a.extent *ℤ (ux i +ℤ uy i +ℤ z i) -ℤ (x i *ℤ a.x +ℤ y i *ℤ a.y +ℤ z i *ℤ a.z)
 
 reach-is : (c : tie.After-magnitude2) → let a = (turns c).before.before.before.args in
-    eval (ρr c) reach ≡ (planeForm (point a.nx a.ny a.nz) (point a.x a.y a.z) a.step a.extent).reach
+    eval (ρr c) reach ≡ (plane_form (point a.nx a.ny a.nz) (point a.x a.y a.z) a.step a.extent).reach
 reach-is c =
     let m = turns c in
     let size : ℤ → ℤ = λ z. pos (nat_abs z) in
@@ -132,9 +132,9 @@ pub plane-form-spec : {M : Type 1} → statement M
 plane-form-spec =
     tie.close
     (tie.spec
-    (λ c κs. (bounded (ρ c) (var 0 ∷ []) planeBounds (2 ^ 62 ∷ []) tt c.requires).0)
-    (λ c κs. (bounded (ρ c.before) (var 1 ∷ []) planeBounds (2 ^ 62 ∷ []) tt c.before.requires).0)
-    (λ c κs. let s = c.before.before in (bounded (ρ s) (var 2 ∷ []) planeBounds (2 ^ 62 ∷ []) tt s.requires).0)
+    (λ c κs. (bounded (ρ c) (var 0 ∷ []) plane_bounds (2 ^ 62 ∷ []) tt c.requires).0)
+    (λ c κs. (bounded (ρ c.before) (var 1 ∷ []) plane_bounds (2 ^ 62 ∷ []) tt c.before.requires).0)
+    (λ c κs. let s = c.before.before in (bounded (ρ s) (var 2 ∷ []) plane_bounds (2 ^ 62 ∷ []) tt s.requires).0)
     (λ c κs. tt)
     (λ c κs. tt)
     (λ c κs. let m = c.before.before in (bounded (ρm m) (var 0 ∷ []) bm (2 ^ 62 ∷ []) tt (ins-m m)).0)

@@ -12,7 +12,7 @@ use mir.Val.{to_z}
 use mir.Facts.{to_z-of_z, to_z_pos}
 use Rattle.integers.specs.Within.{Withins}
 use Rattle.integers.proofs.Expr.{Expr, var, raw, ◌⊕◌, ◌⊗◌}
-use Rattle.integers.proofs.Machine.{Asks, within-toZ, asks, run}
+use Rattle.integers.proofs.Machine.{Asks, within-to_z, asks, run}
 use Rattle.frame.proofs.axis_fits.Statement.{statement}
 use Rattle.frame.proofs.axis_fits.Tie as tie
 
@@ -26,7 +26,7 @@ abbrev bs : List ℕ
 bs = 2 ^ 24 ∷ 64 ∷ 2 ^ 25 ∷ []
 
 ins : (c : tie.Start) → Withins bs (ρ c)
-ins c = (c.requires.0, (within-toZ w64 (lit< tt) c.requires.1, (c.requires.2, tt)))
+ins c = (c.requires.0, (within-to_z w64 (lit< tt) c.requires.1, (c.requires.2, tt)))
 
 needed : (c : tie.Start) → Asks (ρ c) far
 needed c = asks (ρ c) far bs tt (ins c)

@@ -7,15 +7,15 @@ use native.Mathlib.Nat.{le_of_eq}
 use Rattle.layout.specs.declared.Layout.{Layout}
 use Rattle.layout.specs.declared.Header.{Header}
 use Rattle.layout.specs.Layout.{version1}
-use Rattle.layout.specs.Values.{headerIn}
+use Rattle.layout.specs.Values.{header_in}
 use Rattle.layout.specs.Taken.{UsableLayout, BoundedHeader}
 use Rattle.layout.proofs.Bounds.{version1-usable, header-bounded}
 use Rattle.refusal.specs.Limit.{gives}
-use Rattle.refusal.specs.Questions.{ofEach}
-use Rattle.refusal.specs.Inner.{saidVerdict}
+use Rattle.refusal.specs.Questions.{of_each}
+use Rattle.refusal.specs.Inner.{said_verdict}
 use Rattle.refusal.specs.Inner.{asked}
-use Rattle.frame.specs.File.{headerOf}
-use Rattle.frame.specs.Questions.{headerQuestions, kindQuestion}
+use Rattle.frame.specs.File.{header_of}
+use Rattle.frame.specs.Questions.{header_questions, kind_question}
 use Rattle.frame.proofs.Accepted.{checked-by, header-passed}
 use Rattle.frame.proofs.check.Statement.{statement}
 use Rattle.frame.proofs.check.Tie as tie
@@ -27,48 +27,48 @@ usable c = rw c.version-1.ensures version1-usable
 abbrev bytes : tie.After-read-header → List ℕ
 bytes c = c.before.before.before.args.file.now
 
-header : (c : tie.After-read-header) → c.read-header.result.header ≡ headerOf (bytes c)
-header c = c.read-header.ensures.header ∙ ap (λ (l : Layout). headerIn l (bytes c)) c.before.version-1.ensures
+header : (c : tie.After-read-header) → c.read-header.result.header ≡ header_of (bytes c)
+header c = c.read-header.ensures.header ∙ ap (λ (l : Layout). header_in l (bytes c)) c.before.version-1.ensures
 
 bounded : (c : tie.After-read-header) → BoundedHeader c.read-header.result.header
 bounded c = rw (header c) (header-bounded version1 version1-usable (bytes c))
 
 -- what the two parts of the check say
-first : (c : tie.After-check-header) → let s = bytes c.before.before in saidVerdict c.check-header.result ≡ asked (headerQuestions version1 (headerOf s) s)
+first : (c : tie.After-check-header) → let s = bytes c.before.before in said_verdict c.check-header.result ≡ asked (header_questions version1 (header_of s) s)
 first c =
     c.check-header.ensures
-    ∙ ap₂ (λ (l : Layout) (h : Header). asked (headerQuestions l h (bytes c.before.before))) c.before.before.before.version-1.ensures (header c.before.before)
+    ∙ ap₂ (λ (l : Layout) (h : Header). asked (header_questions l h (bytes c.before.before))) c.before.before.before.version-1.ensures (header c.before.before)
 
 second : (c : tie.After-check-kinds) → let h = c.before.before.before.before.before in let s = bytes h in
-    saidVerdict c.check-kinds.result ≡ asked (ofEach (kindQuestion version1 s) (headerOf s).count)
+    said_verdict c.check-kinds.result ≡ asked (of_each (kind_question version1 s) (header_of s).count)
 second c =
     let h = c.before.before.before.before.before in
     c.check-kinds.ensures
-    ∙ ap₂ (λ (l : Layout) (n : ℕ). asked (ofEach (kindQuestion l (bytes h)) n)) h.before.version-1.ensures (ap (λ (x : Header). x.count) (header h))
+    ∙ ap₂ (λ (l : Layout) (n : ℕ). asked (of_each (kind_question l (bytes h)) n)) h.before.version-1.ensures (ap (λ (x : Header). x.count) (header h))
 
 check-kinds-requires : tie.Need-check-kinds-requires
 check-kinds-requires c κs =
     let v = c.before.before in
     let h = v.before.before in
-    let all = header-passed h.before.version-1.result h.read-header.result.header (bytes h) (sym v.check-header.ensures ∙ ap saidVerdict c.enum_told.given.1) in
+    let all = header-passed h.before.version-1.result h.read-header.result.header (bytes h) (sym v.check-header.ensures ∙ ap said_verdict c.enum_told.given.1) in
     (usable h.before, (bounded h).count, le_of_eq (sym all.whole))
 
 returns : tie.Need-returns
 returns c =
     let v = c.before.before.before in
-    rw (checked-by (bytes v.before.before), sym (first v) ∙ ap saidVerdict c.before.limit.given.1)
+    rw (checked-by (bytes v.before.before), sym (first v) ∙ ap said_verdict c.before.limit.given.1)
 
 returns-2 : tie.Need-returns-2
 returns-2 c =
     let k = c.before.before.before in
     let v = k.before.before.before in
-    rw (checked-by (bytes v.before.before), sym (first v) ∙ ap saidVerdict k.before.enum_told.given.1, sym (second k) ∙ ap saidVerdict c.before.kind.given.1)
+    rw (checked-by (bytes v.before.before), sym (first v) ∙ ap said_verdict k.before.enum_told.given.1, sym (second k) ∙ ap said_verdict c.before.kind.given.1)
 
 returns-3 : tie.Need-returns-3
 returns-3 c =
     let k = c.before.before in
     let v = k.before.before.before in
-    rw (checked-by (bytes v.before.before), sym (first v) ∙ ap saidVerdict k.before.enum_told.given.1, sym (second k) ∙ ap saidVerdict c.enum-told2.given.1)
+    rw (checked-by (bytes v.before.before), sym (first v) ∙ ap said_verdict k.before.enum_told.given.1, sym (second k) ∙ ap said_verdict c.enum-told2.given.1)
     (ap gives (header v.before.before))
 
 pub check-spec : {M : Type 1} → statement M

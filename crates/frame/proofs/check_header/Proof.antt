@@ -12,9 +12,9 @@ use mir.Val.{to_z, of_z}
 use mir.Facts.{to_z-of_z}
 use Rattle.integers.proofs.Bounds.{within-fits}
 use Rattle.integers.proofs.Omega.{le-true, le-false, true-lt, false-lt}
-use Rattle.layout.specs.Values.{reservedIn}
+use Rattle.layout.specs.Values.{reserved_in}
 use Rattle.refusal.specs.Questions.{answered}
-use Rattle.frame.specs.Questions.{extentFits}
+use Rattle.frame.specs.Questions.{extent_fits}
 use Rattle.frame.proofs.check_header.Statement.{statement}
 use Rattle.frame.proofs.check_header.Tie as tie
 
@@ -39,10 +39,10 @@ edge-back : (s : tie.Start) → to_z w64 (of_z w64 s.args.header.grid.edge) ≡ 
 edge-back s = to_z-of_z (within-fits (lit< tt) s.requires.1.grid.edge)
 
 -- the extent's answer
-extent : (c : tie.After-extent-fits) → let s = at0 (at1 (at2 (at3 c.before.before))) in c.extent-fits.result ≡ extentFits s.args.layout.farthest s.args.header.grid
+extent : (c : tie.After-extent-fits) → let s = at0 (at1 (at2 (at3 c.before.before))) in c.extent-fits.result ≡ extent_fits s.args.layout.farthest s.args.header.grid
 extent c =
     let s = at0 (at1 (at2 (at3 c.before.before))) in
-    c.extent-fits.ensures ∙ ap (λ (f : ℤ). extentFits f s.args.header.grid) (to_z-of_z {w = w64} (search rules))
+    c.extent-fits.ensures ∙ ap (λ (f : ℤ). extent_fits f s.args.header.grid) (to_z-of_z {w = w64} (search rules))
 
 -- each question that was answered yes
 yes1 : (c : tie.Else1) → leb (at0 c).args.layout.header (length (at0 c).args.file.now) ≡ true
@@ -57,10 +57,10 @@ yes3 c =
     let h = s.args.header.grid.edge in
     true-lt (pos 0) h (le-false h (pos 0) (rw (edge-back s) at c.if3.false))
 
-yes4 : (c : tie.Else4) → let s = at0 (at1 (at2 (at3 c))) in eqb (reservedIn s.args.layout s.args.file.now) 0 ≡ true
+yes4 : (c : tie.Else4) → let s = at0 (at1 (at2 (at3 c))) in eqb (reserved_in s.args.layout s.args.file.now) 0 ≡ true
 yes4 c = let s = at0 (at1 (at2 (at3 c))) in eq-eqb _ _ (sym s.pre.2 ∙ c.if4.false)
 
-yes5 : (c : tie.Else5) → let s = at0 (at1 (at2 (at3 (at4 c)))) in extentFits s.args.layout.farthest s.args.header.grid ≡ true
+yes5 : (c : tie.Else5) → let s = at0 (at1 (at2 (at3 (at4 c)))) in extent_fits s.args.layout.farthest s.args.header.grid ≡ true
 yes5 c = sym (extent c.before) ∙ not-false c.before.extent-fits.result c.if5.false
 
 returns : tie.Need-returns

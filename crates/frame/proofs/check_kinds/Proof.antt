@@ -7,24 +7,24 @@ use native.Mathlib.Nat.{mul-le-mul_left, le_of_lt}
 use native.Mathlib.Omega.{arith}
 use lib.Dec.{ltb}
 use Rattle.layout.specs.declared.Layout.{Layout}
-use Rattle.layout.specs.Layout.{version1, recordStart}
-use Rattle.layout.specs.Values.{kindIn, fromRecord}
+use Rattle.layout.specs.Layout.{version1, record_start}
+use Rattle.layout.specs.Values.{kind_in, from_record}
 use Rattle.layout.proofs.Taken.{kind-any}
-use Rattle.refusal.specs.Questions.{ofEach}
+use Rattle.refusal.specs.Questions.{of_each}
 use Rattle.refusal.specs.Inner.{passed, asked}
-use Rattle.frame.specs.Questions.{kindQuestion}
+use Rattle.frame.specs.Questions.{kind_question}
 use Rattle.refusal.proofs.Asking.{each_none, each_more, each-no}
 use Rattle.frame.proofs.check_kinds.Statement.{statement}
 use Rattle.frame.proofs.check_kinds.Tie as tie
 
 abbrev invariant-loop : tie.invariant-loop
-invariant-loop layout file count i₀ i = (i ≤ count) × (asked (ofEach (kindQuestion layout file) i) ≡ passed)
+invariant-loop layout file count i₀ i = (i ≤ count) × (asked (of_each (kind_question layout file) i) ≡ passed)
 
 abbrev decreases-loop : tie.decreases-loop
 decreases-loop layout file count i₀ i = count - i
 
 -- a record before another starts before it
-earlier : (l : Layout) {i n : ℕ} → i < n → recordStart l i ≤ recordStart l n
+earlier : (l : Layout) {i n : ℕ} → i < n → record_start l i ≤ record_start l n
 earlier l h = omega (arith, mul-le-mul_left l.stride (le_of_lt h))
 
 from-record-requires : tie.Need-from-record-requires invariant-loop decreases-loop
@@ -34,14 +34,14 @@ from-record-requires c κs =
 
 -- the kind that was read
 kind : (c : tie.After-read-kind invariant-loop decreases-loop) → let s = c.before.before.before.before.before in
-    c.read-kind.result ≡ kindIn s.args.layout (fromRecord s.args.layout s.args.file.now c.before.before.before.loop.i)
-kind c = c.read-kind.ensures ∙ ap (kindIn version1) c.before.from-record.ensures ∙ kind-any version1 c.before.before.before.before.before.args.layout _
+    c.read-kind.result ≡ kind_in s.args.layout (from_record s.args.layout s.args.file.now c.before.before.before.loop.i)
+kind c = c.read-kind.ensures ∙ ap (kind_in version1) c.before.from-record.ensures ∙ kind-any version1 c.before.before.before.before.before.args.layout _
 
 returns : tie.Need-returns invariant-loop decreases-loop
 returns c =
     let here = c.before.before.before.before in
     let s = here.before.before in
-    sym (each-no (kindQuestion s.args.layout s.args.file.now) here.loop.i s.args.count c.before.before.before.loop-test.true
+    sym (each-no (kind_question s.args.layout s.args.file.now) here.loop.i s.args.count c.before.before.before.loop-test.true
     here.loop.invariant.1 (ap (λ (k : ℕ). ltb k 3) (sym (kind c.before)) ∙ le-ltb _ 3 c.if1.true))
 
 loop-again : tie.Need-loop-preserved invariant-loop decreases-loop
@@ -49,7 +49,7 @@ loop-again c =
     let here = c.before.before.before.before in
     let s = here.before.before in (
       omega arith,
-      each_more (kindQuestion s.args.layout s.args.file.now) here.loop.i here.loop.invariant.1
+      each_more (kind_question s.args.layout s.args.file.now) here.loop.i here.loop.invariant.1
           (ap (λ (k : ℕ). ltb k 3) (sym (kind c.before)) ∙ lt-ltb _ 3 c.if1.false),
     )
 
@@ -57,7 +57,7 @@ returns-2 : tie.Need-returns-2 invariant-loop decreases-loop
 returns-2 c =
     let s = c.before.before.before in
     let e : c.before.loop.i ≡ s.args.count = omega arith in
-    sym c.before.loop.invariant.1 ∙ ap (λ (n : ℕ). asked (ofEach (kindQuestion s.args.layout s.args.file.now) n)) e
+    sym c.before.loop.invariant.1 ∙ ap (λ (n : ℕ). asked (of_each (kind_question s.args.layout s.args.file.now) n)) e
 
 pub check-kinds-spec : {M : Type 1} → statement M
 check-kinds-spec =
@@ -65,7 +65,7 @@ check-kinds-spec =
     (tie.spec
     invariant-loop
     decreases-loop
-    (λ c. (omega arith, each_none (kindQuestion c.before.args.layout c.before.args.file.now)))
+    (λ c. (omega arith, each_none (kind_question c.before.args.layout c.before.args.file.now)))
     from-record-requires
     (λ c κs. search rules)
     returns

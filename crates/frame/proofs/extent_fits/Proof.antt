@@ -11,17 +11,17 @@ use mir.Facts.{to_z-of_z}
 use Rattle.integers.specs.Within.{Within}
 use Rattle.integers.proofs.Bounds.{within-fits}
 use Rattle.grid.specs.Usable.{OneTo64}
-use Rattle.frame.specs.Questions.{axisFits}
+use Rattle.frame.specs.Questions.{axis_fits}
 use Rattle.frame.proofs.extent_fits.Statement.{statement}
 use Rattle.frame.proofs.extent_fits.Tie as tie
 
 -- an axis, of the numbers as the machine reads them back
 module _ (s : tie.Start) where
   abbrev fits : ℤ → ℕ → Bool
-  fits o n = axisFits s.args.farthest o n s.args.g.edge
+  fits o n = axis_fits s.args.farthest o n s.args.g.edge
 
   axis : {o : ℤ} (n : ℕ) {r : Bool} → Within (2 ^ 24) o
-      → r ≡ axisFits (to_z w64 (of_z w64 s.args.farthest)) (to_z w64 (of_z w64 o)) n (to_z w64 (of_z w64 s.args.g.edge)) → r ≡ fits o n
+      → r ≡ axis_fits (to_z w64 (of_z w64 s.args.farthest)) (to_z w64 (of_z w64 o)) n (to_z w64 (of_z w64 s.args.g.edge)) → r ≡ fits o n
   axis {o} n b e =
       e ∙ rw (to_z-of_z s.fits.farthest, to_z-of_z {w = w64} {z = o} (within-fits (lit< tt) b), to_z-of_z {w = w64} (within-fits (lit< tt) s.pre.edge))
 

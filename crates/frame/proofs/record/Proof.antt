@@ -3,7 +3,7 @@ use borrow.Author.Rules.{rules}
 use mathlib.Core.Path.{◌≡◌, ap, ap₂, ◌∙◌}
 use Rattle.layout.specs.declared.Layout.{Layout}
 use Rattle.layout.specs.Layout.{version1}
-use Rattle.layout.specs.Values.{recordIn, fromRecord}
+use Rattle.layout.specs.Values.{record_in, from_record}
 use Rattle.layout.proofs.Bounds.{version1-usable}
 use Rattle.frame.proofs.record.Statement.{statement}
 use Rattle.frame.proofs.record.Tie as tie
@@ -12,11 +12,11 @@ abbrev start : tie.After-from-record → tie.Start
 start c = c.before.before.before
 
 -- the record, as the contract has it
-same : (c : tie.After-from-record) → let a = (start c).args in recordIn c.before.version-1.result c.from-record.result.now ≡ recordIn version1 (fromRecord version1 a.file.now a.i)
+same : (c : tie.After-from-record) → let a = (start c).args in record_in c.before.version-1.result c.from-record.result.now ≡ record_in version1 (from_record version1 a.file.now a.i)
 same c =
     let v = c.before.version-1.ensures in
     let a = (start c).args in
-    ap₂ recordIn v (c.from-record.ensures ∙ ap (λ (l : Layout). fromRecord l a.file.now a.i) v)
+    ap₂ record_in v (c.from-record.ensures ∙ ap (λ (l : Layout). from_record l a.file.now a.i) v)
 
 pub record-spec : {M : Type 1} → statement M
 record-spec =

@@ -7,8 +7,8 @@ use Prim.Native.Nat.{◌%◌}
 use lib.Dec.{eqb}
 use lib.ListN.{length}
 use Rattle.refusal.specs.Questions.{answered}
-use Rattle.writable.specs.Fits.{headerFits, all_below, triangleFits, triangleNumbers}
-use Rattle.frame_write.specs.Write.{headerToWrite, triangleCount}
+use Rattle.writable.specs.Fits.{header_fits, all_below, triangle_fits, triangle_numbers}
+use Rattle.frame_write.specs.Write.{header_to_write, triangle_count}
 use Rattle.frame_write.proofs.Asked.{too_many}
 use Rattle.frame_write.proofs.check.Statement.{statement}
 use Rattle.frame_write.proofs.check.Tie as tie
@@ -17,23 +17,23 @@ use Rattle.frame_write.proofs.check.Tie as tie
 abbrev start : tie.After-header-fits → tie.Start
 start c = c.before.before.before.before
 
-header : (c : tie.After-header-fits) → let a = (start c).args in c.header-fits.result ≡ headerFits a.layout (headerToWrite a.grid (triangleCount a.triangles.now))
-header c = c.header-fits.ensures ∙ ap (headerFits (start c).args.layout) c.before.before.header-numbers.ensures
+header : (c : tie.After-header-fits) → let a = (start c).args in c.header-fits.result ≡ header_fits a.layout (header_to_write a.grid (triangle_count a.triangles.now))
+header c = c.header-fits.ensures ∙ ap (header_fits (start c).args.layout) c.before.before.header-numbers.ensures
 
-yes1 : (c : tie.Else2) → let a = (start c.before).args in headerFits a.layout (headerToWrite a.grid (triangleCount a.triangles.now)) ≡ true
+yes1 : (c : tie.Else2) → let a = (start c.before).args in header_fits a.layout (header_to_write a.grid (triangle_count a.triangles.now)) ≡ true
 yes1 c = sym (header c.before) ∙ not-false c.before.header-fits.result c.if2.false
 
 yes2 : (c : tie.Else3) → eqb (length (start c.before.before).args.triangles.now % 10) 0 ≡ true
 yes2 c = eq-eqb _ _ c.if3.false
 
 yes3 : (c : tie.Else4) → let a = (start c.before.before.before.before).args in
-    all_below (λ i. triangleFits a.layout (triangleNumbers a.triangles.now i)) (triangleCount a.triangles.now) ≡ true
+    all_below (λ i. triangle_fits a.layout (triangle_numbers a.triangles.now i)) (triangle_count a.triangles.now) ≡ true
 yes3 c = sym c.before.triangles-fit.ensures ∙ not-false c.before.triangles-fit.result c.if4.false
 
 -- ---- each way out
 returns : tie.Need-returns
 unfolding answered
-returns c = let a = c.before.args in rw (too_many a.layout a.grid (triangleCount a.triangles.now) c.if1.true) refl
+returns c = let a = c.before.args in rw (too_many a.layout a.grid (triangle_count a.triangles.now) c.if1.true) refl
 
 returns-2 : tie.Need-returns-2
 unfolding answered

@@ -7,9 +7,9 @@ use Prim.Native.Nat.{◌+◌, ◌-◌, ◌≤◌}
 use native.Mathlib.Omega.{arith}
 use lib.ListN.{length, take, drop}
 use Rattle.layout.specs.declared.Layout.{Layout}
-use Rattle.layout.specs.Layout.{version1, recordFields, recordStart}
+use Rattle.layout.specs.Layout.{version1, record_fields, record_start}
 use Rattle.layout.proofs.Bounds.{version1-usable}
-use Rattle.layout_write.specs.Writing.{canHoldAll, recordBytes}
+use Rattle.layout_write.specs.Writing.{can_hold_all, record_bytes}
 use Rattle.layout_write.specs.Put.{WritableLayout}
 use Rattle.layout_write.proofs.Rows.{version1-writable}
 use Rattle.frame_write.proofs.Pieces.{length_part, length-record}
@@ -24,8 +24,8 @@ module _ (c : tie.After-record-start) where
   known : c.before.version-1.result ≡ version1
   known = c.before.version-1.ensures
 
-  place : c.record-start.result ≡ recordStart version1 start.args.i
-  place = c.record-start.ensures ∙ ap (λ (l : Layout). recordStart l start.args.i) known
+  place : c.record-start.result ≡ record_start version1 start.args.i
+  place = c.record-start.ensures ∙ ap (λ (l : Layout). record_start l start.args.i) known
 
   ends : c.record-start.result + 16 ≤ length start.args.out.now
   ends = omega (arith, place, start.pre.2)
@@ -35,7 +35,7 @@ put-record-requires c κs =
     let d = c.before in
     let s = start d in
     let r = d.record-start.result in
-    subst (λ (l : Layout). WritableLayout l × (canHoldAll (recordFields l) s.args.numbers.now ≡ true) × (length (take (r + 16 - r) (drop r s.args.out.now)) ≡ l.stride))
+    subst (λ (l : Layout). WritableLayout l × (can_hold_all (record_fields l) s.args.numbers.now ≡ true) × (length (take (r + 16 - r) (drop r s.args.out.now)) ≡ l.stride))
     (sym (known d))
     (version1-writable, s.pre.1, length_part r 16 s.args.out.now (ends d))
 
@@ -44,8 +44,8 @@ module _ (c : tie.After-put-record) where
   abbrev at : tie.After-record-start
   at = c.before.before
 
-  bytes : c.put_record.new.1.0 ≡ recordBytes version1 (start at).args.numbers.now
-  bytes = c.put_record.ensures ∙ ap (λ (l : Layout). recordBytes l (start at).args.numbers.now) (known at)
+  bytes : c.put_record.new.1.0 ≡ record_bytes version1 (start at).args.numbers.now
+  bytes = c.put_record.ensures ∙ ap (λ (l : Layout). record_bytes l (start at).args.numbers.now) (known at)
 
   long : let r = at.record-start.result in length c.put_record.new.1.0 ≡ length (take (r + 16 - r) (drop r (start at).args.out.now))
   long = ap length bytes ∙ length-record version1 (start at).args.numbers.now ∙ sym (length_part at.record-start.result 16 (start at).args.out.now (ends at))

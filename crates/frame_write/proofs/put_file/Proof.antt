@@ -6,10 +6,10 @@ use Prim.Native.Nat.{ℕ, ◌*◌, ◌≤◌}
 use native.Mathlib.Omega.{arith}
 use lib.ListN.{length, take, drop}
 use Rattle.layout.specs.declared.Layout.{Layout}
-use Rattle.layout.specs.Layout.{version1, recordStart}
+use Rattle.layout.specs.Layout.{version1, record_start}
 use Rattle.layout.proofs.Bounds.{version1-usable}
-use Rattle.layout_write.specs.Writing.{headerBytes}
-use Rattle.frame_write.specs.Write.{headerToWrite, triangleCount, recordsBytes}
+use Rattle.layout_write.specs.Writing.{header_bytes}
+use Rattle.frame_write.specs.Write.{header_to_write, triangle_count, records_bytes}
 use Rattle.frame_write.proofs.Asked.{Admitted, admitted}
 use Rattle.frame_write.proofs.Pieces.{behind-head, length-head, length-header}
 use Rattle.frame_write.proofs.put_file.Statement.{statement}
@@ -27,7 +27,7 @@ start c = c.before.before.before
 
 -- its bytes
 abbrev front : tie.Start → List ℕ
-front s = headerBytes version1 (headerToWrite s.args.grid (triangleCount s.args.triangles.now))
+front s = header_bytes version1 (header_to_write s.args.grid (triangle_count s.args.triangles.now))
 
 long : (s : tie.Start) → length (front s ++ drop 12 s.args.out.now) ≡ length s.args.out.now
 long s = length-head (front s) s.args.out.now 12 (length-header version1 _) (fits s)
@@ -45,11 +45,11 @@ returns c =
     let d = put.before.before.before.before in
     let s = start d in
     let a = s.args in
-    let n = triangleCount a.triangles.now in
-    let rest = recordsBytes version1 a.triangles.now n in (
-      c.record-start.ensures ∙ ap (λ (l : Layout). recordStart l n) c.before.version-1.ensures,
+    let n = triangle_count a.triangles.now in
+    let rest = records_bytes version1 a.triangles.now n in (
+      c.record-start.ensures ∙ ap (λ (l : Layout). record_start l n) c.before.version-1.ensures,
       put.put-records.ensures
-          ∙ ap (λ (out : List ℕ). take 12 out ++ (rest ++ drop (recordStart version1 n) out)) d.put-head.ensures
+          ∙ ap (λ (out : List ℕ). take 12 out ++ (rest ++ drop (record_start version1 n) out)) d.put-head.ensures
           ∙ behind-head (front s) rest a.out.now 12 (16 * n) (length-header version1 _),
     )
 

@@ -8,8 +8,8 @@ use lib.IntN.{ℤ}
 use lib.ListN.{length, take, drop}
 use lib.Seq.{length-take-le}
 use Rattle.layout.specs.declared.Layout.{Layout}
-use Rattle.layout.specs.Layout.{version1, headerFields}
-use Rattle.layout_write.specs.Writing.{canHoldAll, headerBytes}
+use Rattle.layout.specs.Layout.{version1, header_fields}
+use Rattle.layout_write.specs.Writing.{can_hold_all, header_bytes}
 use Rattle.layout_write.specs.Put.{WritableLayout}
 use Rattle.layout_write.proofs.Rows.{version1-writable}
 use Rattle.frame_write.proofs.put_head.Statement.{statement}
@@ -23,8 +23,8 @@ put-header-requires c κs =
     let n = c.before in
     let v = n.before.before in
     let s = v.before.before in
-    let held = subst (λ (ns : List ℤ). canHoldAll (headerFields version1) ns ≡ true) (sym n.header-numbers.ensures) s.requires.1 in
-    subst (λ (l : Layout). WritableLayout l × (canHoldAll (headerFields l) n.header-numbers.result ≡ true) × (length (take 12 s.args.out.now) ≡ l.header))
+    let held = subst (λ (ns : List ℤ). can_hold_all (header_fields version1) ns ≡ true) (sym n.header-numbers.ensures) s.requires.1 in
+    subst (λ (l : Layout). WritableLayout l × (can_hold_all (header_fields l) n.header-numbers.result ≡ true) × (length (take 12 s.args.out.now) ≡ l.header))
     (sym v.version-1.ensures)
     (version1-writable, held, head-length s)
 
@@ -33,7 +33,7 @@ returns c =
     let p = c.before.before in
     let n = p.before.before in
     let v = n.before.before in
-    ap (λ (front : List ℕ). front ++ drop 12 v.before.before.args.out.now) (p.put-header.ensures ∙ ap₂ headerBytes v.version-1.ensures n.header-numbers.ensures)
+    ap (λ (front : List ℕ). front ++ drop 12 v.before.before.args.out.now) (p.put-header.ensures ∙ ap₂ header_bytes v.version-1.ensures n.header-numbers.ensures)
 
 pub put-head-spec : {M : Type 1} → statement M
 put-head-spec =

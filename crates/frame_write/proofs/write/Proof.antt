@@ -3,11 +3,11 @@ use borrow.Author.Rules.{rules}
 use mathlib.Core.Path.{◌≡◌, sym, ap, ◌∙◌}
 use lib.ListN.{length}
 use Rattle.refusal.specs.Limit.{gives}
-use Rattle.refusal.specs.Inner.{saidVerdict, asked}
+use Rattle.refusal.specs.Inner.{said_verdict, asked}
 use Rattle.layout.specs.declared.Layout.{Layout}
 use Rattle.layout.specs.Layout.{version1}
 use Rattle.layout_write.proofs.Rows.{version1-writable}
-use Rattle.frame_write.specs.Write.{writeQuestions}
+use Rattle.frame_write.specs.Write.{write_questions}
 use Rattle.frame_write.proofs.Asked.{write-refused, write-given}
 use Rattle.frame_write.proofs.write.Statement.{statement}
 use Rattle.frame_write.proofs.write.Tie as tie
@@ -17,16 +17,16 @@ abbrev start : tie.After-check → tie.Start
 start k = k.before.before.before
 
 asked_by : (k : tie.After-check) → let a = (start k).args in
-    saidVerdict k.check.result ≡ asked (writeQuestions version1 a.grid a.triangles.now (length a.out.now))
+    said_verdict k.check.result ≡ asked (write_questions version1 a.grid a.triangles.now (length a.out.now))
 asked_by k =
     let a = (start k).args in
-    k.check.ensures ∙ ap (λ (l : Layout). asked (writeQuestions l a.grid a.triangles.now (length a.out.now))) k.before.version-1.ensures
+    k.check.ensures ∙ ap (λ (l : Layout). asked (write_questions l a.grid a.triangles.now (length a.out.now))) k.before.version-1.ensures
 
 returns : tie.Need-returns
 returns c =
     let k = c.before.before.before in
     let a = (start k).args in
-    write-refused a.grid a.triangles.now a.out.now (sym (asked_by k) ∙ ap saidVerdict c.before.limit.given.1)
+    write-refused a.grid a.triangles.now a.out.now (sym (asked_by k) ∙ ap said_verdict c.before.limit.given.1)
 
 returns-2 : tie.Need-returns-2
 returns-2 c =
@@ -34,7 +34,7 @@ returns-2 c =
     let told = put.before.before in
     let k = told.before.before in
     let a = (start k).args in
-    let given = write-given a.grid a.triangles.now a.out.now (sym (asked_by k) ∙ ap saidVerdict told.enum_told.given.1) in
+    let given = write-given a.grid a.triangles.now a.out.now (sym (asked_by k) ∙ ap said_verdict told.enum_told.given.1) in
     (ap gives put.put-file.ensures.0 ∙ given.0, put.put-file.ensures.1 ∙ given.1)
 
 pub write_spec : {M : Type 1} → statement M
@@ -47,7 +47,7 @@ write_spec =
     (λ c. search rules)
     (λ c κs.
     let told = c.before in
-    sym (asked_by told.before.before) ∙ ap saidVerdict told.enum_told.given.1)
+    sym (asked_by told.before.before) ∙ ap said_verdict told.enum_told.given.1)
     returns
     (λ c. search rules)
     returns-2)

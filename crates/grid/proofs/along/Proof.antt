@@ -7,7 +7,7 @@ use lib.IntN.{ℤ, ◌+ℤ◌, ◌*ℤ◌}
 use Rattle.integers.specs.Within.{Withins}
 use Rattle.integers.proofs.Expr.{Expr, var, ◌⊕◌, ◌⊗◌}
 use Rattle.integers.proofs.Machine.{Asks, asks, run}
-use Rattle.geometry.specs.Bounds.{coordinateMax, stepMax}
+use Rattle.geometry.specs.Bounds.{coordinate_max, step_max}
 use Rattle.grid.proofs.along.Statement.{statement}
 use Rattle.grid.proofs.along.Tie as tie
 
@@ -18,7 +18,7 @@ abbrev e : Expr
 e = var 0 ⊕ var 1 ⊗ var 2
 
 abbrev bs : List ℕ
-bs = coordinateMax ∷ 64 ∷ stepMax ∷ []
+bs = coordinate_max ∷ 64 ∷ step_max ∷ []
 
 ins : (c : tie.After-from-index) → Withins bs (ρ c)
 ins c = let p = c.before.requires in (p.0, (rw c.from-index.ensures (record { within = p.1 }), (p.2, tt)))

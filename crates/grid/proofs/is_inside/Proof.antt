@@ -11,18 +11,18 @@ use mir.Val.{SFits, to_z, of_z}
 use mir.Facts.{to_z-of_z}
 use Rattle.integers.specs.Within.{Within}
 use Rattle.integers.proofs.Bounds.{within-fits}
-use Rattle.geometry.specs.Bounds.{coordinateMax}
-use Rattle.grid.specs.Grid.{insideOn, inside}
+use Rattle.geometry.specs.Bounds.{coordinate_max}
+use Rattle.grid.specs.Grid.{inside_on, inside}
 use Rattle.grid.proofs.is_inside.Statement.{statement}
 use Rattle.grid.proofs.is_inside.Tie as tie
 
 -- an axis, of the numbers as the machine reads them back
 module _ (s : tie.Start) where
   abbrev on : ℤ → ℕ → ℤ → Bool
-  on o n q = insideOn o (pos n *ℤ s.args.g.edge) q
+  on o n q = inside_on o (pos n *ℤ s.args.g.edge) q
 
-  axis : {o q : ℤ} (n : ℕ) {r : Bool} → Within coordinateMax o → SFits w64 q
-      → r ≡ insideOn (to_z w64 (of_z w64 o)) (pos n *ℤ to_z w64 (of_z w64 s.args.g.edge)) (to_z w64 (of_z w64 q)) → r ≡ on o n q
+  axis : {o q : ℤ} (n : ℕ) {r : Bool} → Within coordinate_max o → SFits w64 q
+      → r ≡ inside_on (to_z w64 (of_z w64 o)) (pos n *ℤ to_z w64 (of_z w64 s.args.g.edge)) (to_z w64 (of_z w64 q)) → r ≡ on o n q
   axis {o} {q} n a f e =
       e ∙ rw (to_z-of_z {w = w64} {z = o} (within-fits (lit< tt) a), to_z-of_z {w = w64} {z = q} f, to_z-of_z {w = w64} (within-fits (lit< tt) s.pre.edge))
 

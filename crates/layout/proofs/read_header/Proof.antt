@@ -8,8 +8,8 @@ use mir.Syntax.{w64}
 use mir.Facts.{to_z_pos}
 use Rattle.bits.specs.Field.{field_at}
 use Rattle.bits.proofs.Fields.{taken-value}
-use Rattle.layout.specs.Values.{headerIn, reservedIn}
-use Rattle.layout.specs.Taken.{pointIn}
+use Rattle.layout.specs.Values.{header_in, reserved_in}
+use Rattle.layout.specs.Taken.{point_in}
 use Rattle.layout.proofs.read_header.Statement.{statement}
 use Rattle.layout.proofs.read_header.Tie as tie
 
@@ -25,7 +25,7 @@ take-requires-4 c κs =
     omega (arith, p.edge-most, p.coordinate-most, version.before.new.ensures, version.take.ensures.next, cells.take-Cells.ensures.next, edge.take2.ensures.next, count.take3.ensures.next)
 
 returns : tie.Need-returns
-unfolding headerIn reservedIn
+unfolding header_in reserved_in
 returns c =
     let reserved = c.before.before in
     let count = reserved.before.before in
@@ -47,7 +47,7 @@ returns c =
           ny = (number.ny ∙ ap (λ (p : ℕ). field_at s p 6 + 1) {y = 10} (omega arith)) i;
           nz = (number.nz ∙ ap (λ (p : ℕ). field_at s p 6 + 1) {y = 16} (omega arith)) i;
           edge = (to_z_pos w64 (omega (arith, c.before.struct-known3.given)) ∙ ap pos (taken-value edge.take2.ensures 22 (omega arith))) i;
-          origin = (origin.point_at.ensures ∙ ap (λ (p : ℕ). pointIn s p w) {y = 22 + l.edge} (omega arith)) i;
+          origin = (origin.point_at.ensures ∙ ap (λ (p : ℕ). point_in s p w) {y = 22 + l.edge} (omega arith)) i;
         };
         count = taken-value count.take3.ensures behind (omega arith) i;
       };

@@ -1,12 +1,12 @@
 -- `layout::read_kind` meets its contract. Assumes nothing.
 use borrow.Author.Rules.{rules}
 use Rattle.bits.proofs.Fields.{taken-value}
-use Rattle.layout.specs.Values.{kindIn}
+use Rattle.layout.specs.Values.{kind_in}
 use Rattle.layout.proofs.read_kind.Statement.{statement}
 use Rattle.layout.proofs.read_kind.Tie as tie
 
 returns : tie.Need-returns
-unfolding kindIn
+unfolding kind_in
 returns c = taken-value c.take.ensures 0 c.before.new.ensures
 
 pub read-kind-spec : {M : Type 1} → statement M

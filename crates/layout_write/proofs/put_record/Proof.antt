@@ -7,8 +7,8 @@ use native.Mathlib.Omega.{arith}
 use lib.Dec.{lit<}
 use lib.ListN.{get_or}
 use Rattle.bits.specs.declared.Pen.{Pen}
-use Rattle.layout.specs.Layout.{field, plain, recordFields}
-use Rattle.layout_write.specs.Writing.{recordBytes}
+use Rattle.layout.specs.Layout.{field, plain, record_fields}
+use Rattle.layout_write.specs.Writing.{record_bytes}
 use Rattle.layout_write.specs.Put.{Puttable}
 use Rattle.layout_write.proofs.Penned.{penned-first, penned-more}
 use Rattle.layout_write.proofs.Rows.{Row, next, row_done, record-narrow}
@@ -17,13 +17,13 @@ use Rattle.layout_write.proofs.put_record.Tie as tie
 
 -- the first k numbers have been put; so number k can be
 abbrev Put-first : tie.Start → ℕ → List ℕ → Pen → Type 0
-Put-first s = Row (recordFields s.args.layout) s.args.numbers.now s.args.layout.stride
+Put-first s = Row (record_fields s.args.layout) s.args.numbers.now s.args.layout.stride
 
-ready : (s : tie.Start) (k : ℕ) {t : List ℕ} {p : Pen} → k < 10 → Put-first s k t p → Puttable t p (get_or (recordFields s.args.layout) k (field plain 0)) s.args.numbers.now k
+ready : (s : tie.Start) (k : ℕ) {t : List ℕ} {p : Pen} → k < 10 → Put-first s k t p → Puttable t p (get_or (record_fields s.args.layout) k (field plain 0)) s.args.numbers.now k
 ready s k h r =
     let l = s.args.layout in
     let pre = s.requires in
-    next (recordFields l) s.args.numbers.now l.stride (record-narrow l pre.0.usable) pre.0.stride pre.1 k h r
+    next (record_fields l) s.args.numbers.now l.stride (record-narrow l pre.0.usable) pre.0.stride pre.1 k h r
 
 -- ---- number by number
 abbrev start0 : tie.After-new → tie.Start
@@ -93,12 +93,12 @@ row10 : (c : tie.After-put-signed9) → Put-first (start10 c) 10 c.put-signed9.n
 row10 c = penned-more (row9 c.before.before.before.before) c.put-signed9.ensures
 
 returns : tie.Need-returns
-unfolding recordBytes
+unfolding record_bytes
 returns c =
     let d = c.before.before in
     let s = start10 d in
     let l = s.args.layout in
-    row_done (recordFields l) s.args.numbers.now l.stride (record-narrow l s.pre.0.usable) s.pre.0.stride s.pre.1 (row10 d) (λ i. omega (arith, c.slice-known11.given i))
+    row_done (record_fields l) s.args.numbers.now l.stride (record-narrow l s.pre.0.usable) s.pre.0.stride s.pre.1 (row10 d) (λ i. omega (arith, c.slice-known11.given i))
 
 pub put-record-spec : {M : Type 1} → statement M
 put-record-spec =

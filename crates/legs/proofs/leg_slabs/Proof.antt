@@ -6,9 +6,9 @@ use lib.IntN.{ℤ}
 use Rattle.integers.specs.Within.{Withins}
 use Rattle.integers.proofs.Expr.{Expr, var, ◌⊖◌, nth}
 use Rattle.integers.proofs.Machine.{asks, bounded, learnt}
-use Rattle.geometry.specs.Bounds.{coordinateMax, stepMax, extentMax}
+use Rattle.geometry.specs.Bounds.{coordinate_max, step_max, extent_max}
 use Rattle.legs.specs.declared.Slab.{Slab}
-use Rattle.legs.specs.Slab.{slabOf, slabBounds}
+use Rattle.legs.specs.Slab.{slab_of, slab_bounds}
 use Rattle.legs.proofs.leg_slabs.Statement.{statement}
 use Rattle.legs.proofs.leg_slabs.Tie as tie
 
@@ -19,8 +19,8 @@ abbrev ρ : tie.Start → List ℤ
 
 abbrev bs : List ℕ
 bs =
-    coordinateMax ∷ coordinateMax ∷ coordinateMax ∷ coordinateMax ∷ coordinateMax ∷ coordinateMax ∷ coordinateMax ∷ coordinateMax ∷ coordinateMax
-    ∷ stepMax ∷ extentMax ∷ []
+    coordinate_max ∷ coordinate_max ∷ coordinate_max ∷ coordinate_max ∷ coordinate_max ∷ coordinate_max ∷ coordinate_max ∷ coordinate_max ∷ coordinate_max
+    ∷ step_max ∷ extent_max ∷ []
 
 ins : (s : tie.Start) → Withins bs (ρ s)
 ins s =
@@ -45,7 +45,7 @@ abbrev zx : List Expr
 zx = apart 5 2 ∷ apart 3 0 ∷ apart 2 8 ∷ apart 0 6 ∷ var 9 ∷ var 10 ∷ []
 
 abbrev Is : Slab → List ℤ → Type 0
-Is r l = r ≡ slabOf (nth l 0) (nth l 1) (nth l 2) (nth l 3) (nth l 4) (nth l 5)
+Is r l = r ≡ slab_of (nth l 0) (nth l 1) (nth l 2) (nth l 3) (nth l 4) (nth l 5)
 
 -- each place, from the one behind it
 abbrev at-ex : tie.After-struct-told4 → tie.Start
@@ -87,7 +87,7 @@ leg-slabs-spec =
     (λ c. let s = at_x c in (asks (ρ s) (apart 0 6) bs tt (ins s)).2)
     (λ c. let s = at_y c in (asks (ρ s) (apart 1 7) bs tt (ins s)).2)
     (λ c. let s = at-z c in (asks (ρ s) (apart 2 8) bs tt (ins s)).2)
-    (λ c κs. let s = at-z c in bounded (ρ s) xy bs slabBounds tt (ins s))
-    (λ c κs. let s = at-z c.before in bounded (ρ s) yz bs slabBounds tt (ins s))
-    (λ c κs. let s = at-z c.before.before in bounded (ρ s) zx bs slabBounds tt (ins s))
+    (λ c κs. let s = at-z c in bounded (ρ s) xy bs slab_bounds tt (ins s))
+    (λ c κs. let s = at-z c.before in bounded (ρ s) yz bs slab_bounds tt (ins s))
+    (λ c κs. let s = at-z c.before.before in bounded (ρ s) zx bs slab_bounds tt (ins s))
     returns)

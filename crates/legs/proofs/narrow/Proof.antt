@@ -11,8 +11,8 @@ use Rattle.integers.specs.Within.{Withins}
 use Rattle.integers.proofs.Bounds.{within-weaken}
 use Rattle.integers.proofs.Expr.{Expr, var, ◌⊕◌, ◌⊗◌, nth}
 use Rattle.integers.proofs.Machine.{asks, bound, asked, learnt}
-use Rattle.geometry.specs.Bounds.{indexMax}
-use Rattle.runs.specs.Run.{slopeMax, reachMax, SlabReady, Narrows, inSlab}
+use Rattle.geometry.specs.Bounds.{index_max}
+use Rattle.runs.specs.Run.{slope_max, reach_max, SlabReady, Narrows, in_slab}
 use Rattle.runs.proofs.Narrow.{by-same}
 use Rattle.legs.specs.declared.Slab.{Slab}
 use Rattle.legs.proofs.narrow.Statement.{statement}
@@ -29,7 +29,7 @@ abbrev ρ : tie.After-from-index → List ℤ
 ρ c = let s = slab c in s.a ∷ s.b ∷ s.c ∷ s.reach ∷ c.from-index.result ∷ []
 
 abbrev bs : List ℕ
-bs = slopeMax ∷ slopeMax ∷ reachMax ∷ reachMax ∷ indexMax ∷ []
+bs = slope_max ∷ slope_max ∷ reach_max ∷ reach_max ∷ index_max ∷ []
 
 ins : (c : tie.After-from-index) → Withins bs (ρ c)
 ins c =
@@ -65,9 +65,9 @@ returns c =
     let f = c.before.before.before.before.before.before.before in
     let a = (start f).args in
     let s = slab f in
-    let found = learnt (ρ f) (λ l. Narrows a.run (inSlab (nth l 0) (nth l 1) (nth l 2)) c.by-slab.result) es bs tt (ins f) c.by-slab.ensures in
+    let found = learnt (ρ f) (λ l. Narrows a.run (in_slab (nth l 0) (nth l 1) (nth l 2)) c.by-slab.result) es bs tt (ins f) c.by-slab.ensures in
     by-same (λ j. ap (λ (z : ℤ). le_z (pos 0) z && le_z z s.reach) (sym (+ℤ_assoc (s.a *ℤ pos j) (s.b *ℤ pos a.at) s.c)))
-    (subst (λ (z : ℤ). Narrows a.run (inSlab s.a (s.b *ℤ z +ℤ s.c) s.reach) c.by-slab.result) f.from-index.ensures found)
+    (subst (λ (z : ℤ). Narrows a.run (in_slab s.a (s.b *ℤ z +ℤ s.c) s.reach) c.by-slab.result) f.from-index.ensures found)
 
 pub narrow-spec : {M : Type 1} → statement M
 narrow-spec =

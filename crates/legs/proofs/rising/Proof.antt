@@ -4,12 +4,12 @@ use mathlib.Core.Path.{◌≡◌, ◌∙◌, ap}
 use Prim.Native.Nat.{ℕ, ◌^◌, zero-le}
 use lib.IntN.{ℤ, pos, nat_abs, ◌-ℤ◌, ◌*ℤ◌}
 use Rattle.integers.specs.Within.{Withins}
-use Rattle.integers.specs.Order.{maxℤ}
+use Rattle.integers.specs.Order.{max_ℤ}
 use Rattle.integers.proofs.Expr.{Expr, var, neg, ◌⊖◌, ◌⊗◌}
 use Rattle.integers.proofs.Machine.{Asks, asks, run, bounded}
 use Rattle.integers.proofs.MinMax.{within-max}
-use Rattle.geometry.specs.Bounds.{offsetMax}
-use Rattle.legs.specs.Slab.{slabBounds}
+use Rattle.geometry.specs.Bounds.{offset_max}
+use Rattle.legs.specs.Slab.{slab_bounds}
 use Rattle.legs.proofs.rising.Statement.{statement}
 use Rattle.legs.proofs.rising.Tie as tie
 
@@ -18,11 +18,11 @@ abbrev ρ : tie.Start → List ℤ
 
 -- a call's result, and the parameters
 abbrev bs : List ℕ
-bs = offsetMax ∷ slabBounds
+bs = offset_max ∷ slab_bounds
 
 -- ---- the constant
-max-is : (c : tie.After-max) → c.max.result ≡ maxℤ (pos 0) c.before.args.ea
-max-is c = c.max.ensures ∙ ap (maxℤ (pos 0)) (run (ρ c.before) (var 0) slabBounds tt c.before.requires)
+max-is : (c : tie.After-max) → c.max.result ≡ max_ℤ (pos 0) c.before.args.ea
+max-is c = c.max.ensures ∙ ap (max_ℤ (pos 0)) (run (ρ c.before) (var 0) slab_bounds tt c.before.requires)
 
 abbrev ρm : tie.After-max → List ℤ
 ρm c = c.max.result ∷ ρ c.before
@@ -42,7 +42,7 @@ needed c = asks (ρm c) constant bs tt (ins-m c)
 size_is : (c : tie.After-magnitude) → c.magnitude.result ≡ pos (nat_abs c.before.before.args.ea)
 size_is c =
     let s = c.before.before in
-    c.magnitude.ensures ∙ ap (λ (z : ℤ). pos (nat_abs z)) (run (ρ s) (var 0) slabBounds tt s.requires)
+    c.magnitude.ensures ∙ ap (λ (z : ℤ). pos (nat_abs z)) (run (ρ s) (var 0) slab_bounds tt s.requires)
 
 abbrev ρr : tie.After-magnitude → List ℤ
 ρr c = c.magnitude.result ∷ ρ c.before.before
@@ -81,7 +81,7 @@ rising-spec =
     (λ c. (needed c).1.1.2)
     (λ c. (needed c).1.2)
     (λ c. (needed c).2)
-    (λ c κs. let s = c.before in (bounded (ρ s) (var 0 ∷ []) slabBounds (2 ^ 62 ∷ []) tt s.requires).0)
+    (λ c κs. let s = c.before in (bounded (ρ s) (var 0 ∷ []) slab_bounds (2 ^ 62 ∷ []) tt s.requires).0)
     (λ c. (asks (ρr c) reach bs tt (ins-r c)).1.2)
     (λ c. (asks (ρr c) reach bs tt (ins-r c)).2)
     (λ c. (asks (ρr c) along bs tt (ins-r c)).0.2)

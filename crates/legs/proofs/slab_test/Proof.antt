@@ -8,8 +8,8 @@ use Rattle.integers.specs.Within.{Withins}
 use Rattle.integers.proofs.Expr.{Expr, var, num, ◌⊕◌, ◌⊗◌}
 use Rattle.integers.proofs.Machine.{Asks, asks, run, tested}
 use Rattle.integers.proofs.Omega.{lt-true, lt-false, true-le, false-le}
-use Rattle.geometry.specs.Bounds.{indexMax}
-use Rattle.runs.specs.Run.{slopeMax, reachMax}
+use Rattle.geometry.specs.Bounds.{index_max}
+use Rattle.runs.specs.Run.{slope_max, reach_max}
 use Rattle.legs.specs.Slab.{form_of}
 use Rattle.legs.proofs.slab_test.Statement.{statement}
 use Rattle.legs.proofs.slab_test.Tie as tie
@@ -18,7 +18,7 @@ abbrev ρ : tie.Start → List ℤ
 ρ s = let a = s.args in a.s.a ∷ a.s.b ∷ a.s.c ∷ a.s.reach ∷ a.i ∷ a.j ∷ []
 
 abbrev bs : List ℕ
-bs = slopeMax ∷ slopeMax ∷ reachMax ∷ reachMax ∷ indexMax ∷ indexMax ∷ []
+bs = slope_max ∷ slope_max ∷ reach_max ∷ reach_max ∷ index_max ∷ index_max ∷ []
 
 ins : (s : tie.Start) → Withins bs (ρ s)
 ins s = let p = s.requires in let f = p.0 in (f.a, (f.b, (f.c, (f.reach, (p.1, (p.2, tt))))))

@@ -8,8 +8,8 @@ use mir.Syntax.{w64}
 use mir.Val.{to_z, of_z}
 use Rattle.integers.specs.Within.{Within}
 use Rattle.integers.proofs.Machine.{back}
-use Rattle.geometry.specs.Bounds.{indexMax}
-use Rattle.legs.specs.Slab.{slabHolds, cellHolds}
+use Rattle.geometry.specs.Bounds.{index_max}
+use Rattle.legs.specs.Slab.{slab_holds, cell_holds}
 use Rattle.legs.proofs.touches.Statement.{statement}
 use Rattle.legs.proofs.touches.Tie as tie
 
@@ -17,7 +17,7 @@ use Rattle.legs.proofs.touches.Tie as tie
 abbrev m : ℤ → ℤ
 m z = to_z w64 (of_z w64 z)
 
-within : {n : ℕ} {z : ℤ} → z ≡ pos n → n ≤ indexMax → Within indexMax z
+within : {n : ℕ} {z : ℤ} → z ≡ pos n → n ≤ index_max → Within index_max z
 within e h = rw e (record { within = h })
 
 x-is : (c : tie.After-from-index) → m c.from-index.result ≡ pos c.before.args.i
@@ -31,24 +31,24 @@ z-is c = back w64 c.from-index3.type-inv ∙ c.from-index3.ensures
 
 -- the first test
 xy-is : (c : tie.After-slab-test) → let y = c.before.before.before.before in let a = y.before.before.args in
-    c.slab-test.result ≡ slabHolds a.s.xy (pos a.i) (pos a.j)
+    c.slab-test.result ≡ slab_holds a.s.xy (pos a.i) (pos a.j)
 xy-is c =
     let y = c.before.before.before.before in
     let a = y.before.before.args in
-    c.slab-test.ensures ∙ ap₂ (slabHolds a.s.xy) (x-is y.before) (y-is y)
+    c.slab-test.ensures ∙ ap₂ (slab_holds a.s.xy) (x-is y.before) (y-is y)
 
 returns : tie.Need-returns
-unfolding cellHolds
+unfolding cell_holds
 returns c = rw (sym (xy-is c.before) ∙ not-true _ c.if1.true)
 
 returns-2 : tie.Need-returns-2
-unfolding cellHolds
+unfolding cell_holds
 returns-2 c =
     let e = c.before in
     let z = e.before.before.before.before in
     let a = z.before.before.before.args in
     rw (sym (xy-is e.before) ∙ not-false _ e.if1.false)
-    (c.slab-test2.ensures ∙ ap₂ (slabHolds a.s.zx) (z-is z) (x-is z.before.before))
+    (c.slab-test2.ensures ∙ ap₂ (slab_holds a.s.zx) (z-is z) (x-is z.before.before))
 
 pub touches-spec : {M : Type 1} → statement M
 touches-spec =

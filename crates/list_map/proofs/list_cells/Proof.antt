@@ -4,7 +4,7 @@ use mathlib.Core.Path.{◌≡◌, sym, ap, ◌∙◌}
 use Prim.Native.Nat.{◌-◌, ◌<◌}
 use native.Mathlib.Omega.{arith}
 use lib.ListN.{length}
-use Rattle.listing.specs.Listing.{saidPiece}
+use Rattle.listing.specs.Listing.{said_piece}
 use Rattle.listing.proofs.Whole.{goes_on}
 use Rattle.list_map.proofs.list_cells.Statement.{statement}
 use Rattle.list_map.proofs.list_cells.Tie as tie
@@ -23,7 +23,7 @@ passed c =
     let l = k.before.before in
     let a = l.before.before.before.args in
     goes_on a.map.now l.loop.left l.loop.out c.len.given.0.0 c.len.given.0.1.0 (omega arith)
-    (sym k.more.ensures.0 ∙ ap saidPiece c.len.given.1)
+    (sym k.more.ensures.0 ∙ ap said_piece c.len.given.1)
 
 pub list-cells-spec : {M : Type 1} → statement M
 list-cells-spec =

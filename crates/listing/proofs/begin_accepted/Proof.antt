@@ -6,14 +6,14 @@ use native.Mathlib.Omega.{arith}
 use lib.ListN.{length}
 use Rattle.refusal.specs.Limit.{gives}
 use Rattle.grid.specs.declared.Grid.{Grid}
-use Rattle.grid.specs.Grid.{cellCount}
-use Rattle.map.specs.Map.{mapLength}
+use Rattle.grid.specs.Grid.{cell_count}
+use Rattle.map.specs.Map.{map_length}
 use Rattle.layout.specs.declared.Header.{Header}
 use Rattle.frame.proofs.Accepted.{accepted, header_is}
-use Rattle.fill.specs.Fill.{gridOf, saidFilling}
+use Rattle.fill.specs.Fill.{grid_of, said_filling}
 use Rattle.fill.proofs.Answers.{left-refused, fill-short}
 use Rattle.text.specs.Text.{spliced}
-use Rattle.listing.specs.Listing.{firstLine, more, all_of}
+use Rattle.listing.specs.Listing.{first_line, more, all_of}
 use Rattle.listing.proofs.Starts.{start-refused, start-short, start-put, first-is}
 use Rattle.listing.proofs.begin_accepted.Statement.{statement}
 use Rattle.listing.proofs.begin_accepted.Tie as tie
@@ -22,8 +22,8 @@ abbrev entry : tie.After-map-length → tie.Start
 entry c = c.before.before.before.before.before.before
 
 -- the map's length
-long : (c : tie.After-map-length) → c.map-length.result ≡ mapLength (cellCount (entry c).args.header.grid)
-long c = c.map-length.ensures ∙ ap mapLength c.before.cell-count.ensures.0
+long : (c : tie.After-map-length) → c.map-length.result ≡ map_length (cell_count (entry c).args.header.grid)
+long c = c.map-length.ensures ∙ ap map_length c.before.cell-count.ensures.0
 
 returns : tie.Need-returns
 returns c =
@@ -43,7 +43,7 @@ returns-3 : tie.Need-returns-3
 returns-3 c =
     let f = c.before.before.before.before.before in
     let a = (entry f.before.before.before.before).args in
-    let refused = sym f.fill-checked.ensures.0 ∙ ap saidFilling c.before.limit.given.1 in
+    let refused = sym f.fill-checked.ensures.0 ∙ ap said_filling c.before.limit.given.1 in
     let b = start-refused a.file.now a.map.now a.out.now refused in
     (b.0, f.fill-checked.ensures.1 ∙ left-refused a.file.now a.map.now refused ∙ b.1, b.2)
 
@@ -57,12 +57,12 @@ returns-4 c =
     let s = entry m in
     let a = s.args in
     let room = rw (long m) at e.before.if1.false in
-    let said = sym (ap saidFilling arm.count.given.1) ∙ f.fill-checked.ensures.0 in
+    let said = sym (ap said_filling arm.count.given.1) ∙ f.fill-checked.ensures.0 in
     let line = first-is a.file.now a.map.now a.out.now a.header s.pre room said m.before.cell-count.ensures.0 in
     let b = start-put a.file.now a.map.now a.out.now a.header s.pre room e.if2.false in
     let p = put.put-filled.ensures in
-    let len : put.put-filled.result ≡ length (firstLine a.file.now) = omega (arith, p.next, ap length line) in
-    let same : a.header.grid ≡ gridOf a.file.now = ap (λ (h : Header). h.grid) (sym (header_is a.file.now a.header s.pre)) in
+    let len : put.put-filled.result ≡ length (first_line a.file.now) = omega (arith, p.next, ap length line) in
+    let same : a.header.grid ≡ grid_of a.file.now = ap (λ (h : Header). h.grid) (sym (header_is a.file.now a.header s.pre)) in
     let says = ap₂ (λ (n : ℕ) (g : Grid). gives (more n (all_of g))) len same ∙ b.0 in
     (says, f.fill-checked.ensures.1 ∙ b.1, p.bytes ∙ ap (spliced a.out.now 0) line ∙ b.2)
 

@@ -5,20 +5,20 @@ use mathlib.Core.Path.{◌≡◌, sym, ap, ◌∙◌}
 use Prim.Native.Nat.{ℕ}
 use lib.Dec.{leb}
 use lib.ListN.{length}
-use Rattle.map.specs.Map.{mapLength}
-use Rattle.listing.specs.Listing.{sideFits, usable}
+use Rattle.map.specs.Map.{map_length}
+use Rattle.listing.specs.Listing.{side_fits, usable}
 use Rattle.listing.proofs.Usable.{side}
 use Rattle.listing.proofs.is_usable.Statement.{statement}
 use Rattle.listing.proofs.is_usable.Tie as tie
 
 -- the sides that passed
-side-x : (c : tie.Then1) → sideFits c.before.before.before.args.g.nx ≡ true
+side-x : (c : tie.Then1) → side_fits c.before.before.before.args.g.nx ≡ true
 side-x c = sym c.before.side-fits.ensures ∙ c.if1.true
 
-side-y : (c : tie.Then2) → sideFits c.before.before.before.before.before.args.g.ny ≡ true
+side-y : (c : tie.Then2) → side_fits c.before.before.before.before.before.args.g.ny ≡ true
 side-y c = sym c.before.side-fits2.ensures ∙ c.if2.true
 
-side-z : (c : tie.Then3) → sideFits c.before.before.before.before.before.before.before.args.g.nz ≡ true
+side-z : (c : tie.Then3) → side_fits c.before.before.before.before.before.before.before.args.g.nz ≡ true
 side-z c = sym c.before.side-fits3.ensures ∙ c.if3.true
 
 cell-count-requires : tie.Need-cell-count-requires
@@ -34,7 +34,7 @@ returns c =
     let y = z.before.before in
     let x = y.before.before in
     let len = length x.before.before.before.args.map.now in
-    rw (side-x x, side-y y, side-z z) (ap (λ (n : ℕ). leb n len) (c.map-length.ensures ∙ ap mapLength c.before.cell-count.ensures.0))
+    rw (side-x x, side-y y, side-z z) (ap (λ (n : ℕ). leb n len) (c.map-length.ensures ∙ ap map_length c.before.cell-count.ensures.0))
 
 returns-2 : tie.Need-returns-2
 unfolding usable

@@ -4,7 +4,7 @@ use borrow.Author.Tests.{lt-ltb, le-ltb}
 use mathlib.Core.Bool.{true}
 use mathlib.Core.Path.{◌≡◌, refl, sym, ◌∙◌}
 use lib.ListN.{length}
-use Rattle.listing.specs.Listing.{usable, partBy, piece, pieceBytes}
+use Rattle.listing.specs.Listing.{usable, part_by, piece, piece_bytes}
 use Rattle.listing.proofs.Advance.{advance-piece}
 use Rattle.listing.proofs.Usable.{usable-grid}
 use Rattle.listing.proofs.more.Statement.{statement}
@@ -15,8 +15,8 @@ test c = sym c.before.is-usable.ensures ∙ c.if1.true
 
 -- what was put, by the definition of a piece
 put : (c : tie.After-put-cells) → let a = c.before.before.before.before.before.before.before.args in
-    (partBy c.put-cells.result.at (record { grid = a.rest.grid; from = c.put-cells.result.cell }) ≡ piece a.map.now a.rest a.out.now)
-    × (c.put-cells.new.1.1.1.0 ≡ pieceBytes a.map.now a.rest a.out.now)
+    (part_by c.put-cells.result.at (record { grid = a.rest.grid; from = c.put-cells.result.cell }) ≡ piece a.map.now a.rest a.out.now)
+    × (c.put-cells.new.1.1.1.0 ≡ piece_bytes a.map.now a.rest a.out.now)
 put c =
     let t = c.before.before in
     let a = t.before.before.before.before.before.args in
@@ -41,7 +41,7 @@ returns-2 c =
     (rw (le-ltb _ _ (rw k.cell-count.ensures.0 at c.if2.false)) at p.0, p.1)
 
 returns-3 : tie.Need-returns-3
-unfolding piece pieceBytes
+unfolding piece piece_bytes
 returns-3 c = rw (sym c.before.is-usable.ensures ∙ c.if1.false) (refl, refl)
 
 pub more-spec : {M : Type 1} → statement M

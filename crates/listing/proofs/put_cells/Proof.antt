@@ -4,9 +4,9 @@ use mathlib.Core.Path.{◌≡◌, refl, sym, ap, ◌∙◌, subst}
 use Prim.Native.Nat.{ℕ, ◌-◌, ◌<◌}
 use native.Mathlib.Omega.{arith}
 use lib.ListN.{length}
-use Rattle.map.specs.Map.{isFilled}
-use Rattle.text.specs.Lines.{lineMost}
-use Rattle.listing.specs.Listing.{cellLine, line_of}
+use Rattle.map.specs.Map.{is_filled}
+use Rattle.text.specs.Lines.{line_most}
+use Rattle.listing.specs.Listing.{cell_line, line_of}
 use Rattle.listing.specs.Inner.{stop_at, Advances}
 use Rattle.listing.proofs.Advance.{advance-none, advance-more}
 use Rattle.listing.proofs.Lines.{stop-here, stop-end}
@@ -15,7 +15,7 @@ use Rattle.listing.proofs.put_cells.Statement.{statement}
 use Rattle.listing.proofs.put_cells.Tie as tie
 
 abbrev invariant-loop : tie.invariant-loop
-invariant-loop map from out₀ all nx ny cell₀ at₀ out cell at = Advances (cellLine (isFilled map) nx ny) all from 0 out₀ cell at out × (length out ≡ length out₀)
+invariant-loop map from out₀ all nx ny cell₀ at₀ out cell at = Advances (cell_line (is_filled map) nx ny) all from 0 out₀ cell at out × (length out ≡ length out₀)
 
 abbrev decreases-loop : tie.decreases-loop
 decreases-loop map from out₀ all nx ny cell₀ at₀ out cell at = all - cell
@@ -34,7 +34,7 @@ loop-again c =
     let put = c.before.before in
     let l = put.before.before.before.before in
     let s = l.before.before.before.before in
-    (advance-more (line_of (isFilled s.args.map.now) s.args.g) l.before.cell-count.result l.loop.invariant.0 put.put_next.ensures.0, omega arith)
+    (advance-more (line_of (is_filled s.args.map.now) s.args.g) l.before.cell-count.result l.loop.invariant.0 put.put_next.ensures.0, omega arith)
 
 -- a loop that is left where the piece ends has reached its end
 finish : {line : ℕ → List ℕ} {all count from cell at : ℕ} {old new : List ℕ} → all ≡ count → Advances line all from 0 old cell at new
@@ -49,7 +49,7 @@ returns c =
     let l = c.before in
     let k = l.before in
     let s = k.before.before.before in
-    let line = line_of (isFilled s.args.map.now) s.args.g in
+    let line = line_of (is_filled s.args.map.now) s.args.g in
     let room = length s.args.out.now - l.loop.at in
     let none : k.cell-count.result - l.loop.cell ≡ 0 = omega arith in
     finish k.cell-count.ensures.0 l.loop.invariant.0 (ap (stop_at line room l.loop.cell) none ∙ stop-end line room l.loop.cell)
@@ -59,9 +59,9 @@ returns-2 c =
     let l = c.before.before in
     let k = l.before in
     let s = k.before.before.before in
-    let line = line_of (isFilled s.args.map.now) s.args.g in
+    let line = line_of (is_filled s.args.map.now) s.args.g in
     let room = length s.args.out.now - l.loop.at in
-    let full : room < lineMost = omega arith in
+    let full : room < line_most = omega arith in
     finish k.cell-count.ensures.0 l.loop.invariant.0 (stop-here line room l.loop.cell (k.cell-count.result - l.loop.cell) full)
 
 pub put-cells-spec : {M : Type 1} → statement M

@@ -5,11 +5,11 @@ use mathlib.Core.Path.{subst}
 use Prim.Native.Nat.{ℕ, ◌<◌}
 use native.Mathlib.Nat.{mul-le-mul}
 use native.Mathlib.Omega.{arith}
-use Rattle.grid.specs.Cells.{xOfCell, yOfCell, zOfCell}
+use Rattle.grid.specs.Cells.{x_of_cell, y_of_cell, z_of_cell}
 use Rattle.grid.proofs.Numbers.{x_lt, y-lt, z-lt}
-use Rattle.map.specs.Map.{isFilled}
+use Rattle.map.specs.Map.{is_filled}
 use Rattle.text.specs.Inner.{Puts}
-use Rattle.listing.specs.Listing.{cellLine}
+use Rattle.listing.specs.Listing.{cell_line}
 use Rattle.listing.specs.Inner.{Advances}
 use Rattle.listing.proofs.Advance.{advance-skip, advance-line, advance-more, no_line, filled-line}
 use Rattle.listing.proofs.put_next.Statement.{statement}
@@ -20,7 +20,7 @@ start c = c.before.before.before
 
 -- the lines of the map's cells
 abbrev lines : tie.Start → ℕ → List ℕ
-lines s = cellLine (isFilled s.args.map.now) s.args.nx s.args.ny
+lines s = cell_line (is_filled s.args.map.now) s.args.nx s.args.ny
 
 -- the cells up to the next filled one are passed
 passed : (c : tie.After-next-filled) → let a = (start c).args in Advances (lines (start c)) a.all a.cell a.at a.out.now c.next-filled.result a.at a.out.now
@@ -38,9 +38,9 @@ put-place-requires c κs =
     let a = s.args in
     let (x, y, layers, bytes, some, room) = s.pre in
     let n = next.next-filled.result in
-    let i : xOfCell a.nx n < 64 = omega (arith, x, x_lt a.nx a.ny n x.some) in
-    let j : yOfCell a.nx a.ny n < 64 = omega (arith, y, y-lt a.nx a.ny n y.some) in
-    let k : zOfCell a.nx a.ny n < 64 = z-lt a.nx a.ny 64 n x.some y.some (omega (arith, layers, c.before.if1.true)) in
+    let i : x_of_cell a.nx n < 64 = omega (arith, x, x_lt a.nx a.ny n x.some) in
+    let j : y_of_cell a.nx a.ny n < 64 = omega (arith, y, y-lt a.nx a.ny n y.some) in
+    let k : z_of_cell a.nx a.ny n < 64 = z-lt a.nx a.ny 64 n x.some y.some (omega (arith, layers, c.before.if1.true)) in
     (omega (arith, i, j, k), omega (arith, i, j, k), omega (arith, i, j, k), room)
 
 returns : tie.Need-returns

@@ -6,14 +6,14 @@ use native.Mathlib.Omega.{arith}
 use lib.Count.{ones, ones-le}
 use lib.ListN.{get_or}
 use Rattle.integers.proofs.Machine.{cases}
-use Rattle.map.specs.Map.{isFilled, countBelow}
+use Rattle.map.specs.Map.{is_filled, count_below}
 use Rattle.map.proofs.Counts.{count_none, count-byte, ones-zero}
 use Rattle.map.proofs.count_bytes.Statement.{statement}
 use Rattle.map.proofs.count_bytes.Tie as tie
 
 -- the filled cells of the first i bytes are counted
 abbrev Counted : List ℕ → (len sum i : ℕ) → Type 0
-Counted map len sum i = (i ≤ len) × (sum ≤ i * 8) × (sum ≡ countBelow (isFilled map) (i * 8))
+Counted map len sum i = (i ≤ len) × (sum ≤ i * 8) × (sum ≡ count_below (is_filled map) (i * 8))
 
 abbrev invariant-loop : tie.invariant-loop
 invariant-loop map len sum₀ i₀ sum i = Counted map len sum i
@@ -58,7 +58,7 @@ returns : tie.Need-returns invariant-loop decreases-loop invariant-loop2 decreas
 returns c =
     let start = c.before.before.before.before.before in
     let all : c.before.loop2.i ≡ start.args.len = omega arith in
-    (c.before.loop2.invariant.2 ∙ ap (λ (n : ℕ). countBelow (isFilled start.args.map.now) (n * 8)) all, omega arith)
+    (c.before.loop2.invariant.2 ∙ ap (λ (n : ℕ). count_below (is_filled start.args.map.now) (n * 8)) all, omega arith)
 
 pub count-bytes-spec : {M : Type 1} → statement M
 count-bytes-spec =
@@ -68,7 +68,7 @@ count-bytes-spec =
     decreases-loop
     invariant-loop2
     decreases-loop2
-    (λ c. (omega arith, omega arith, sym (count_none (isFilled c.before.args.map.now))))
+    (λ c. (omega arith, omega arith, sym (count_none (is_filled c.before.args.map.now))))
     (λ c. omega arith)
     (λ c κs. omega arith)
     (λ c. omega (arith, few c.before))

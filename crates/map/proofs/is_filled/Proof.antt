@@ -3,12 +3,12 @@ use borrow.Author.Rules.{rules}
 use mathlib.Core.Path.{refl}
 use Prim.Native.Nat.{◌/◌}
 use native.Mathlib.Omega.{arith}
-use Rattle.map.specs.Map.{isFilled}
+use Rattle.map.specs.Map.{is_filled}
 use Rattle.map.proofs.is_filled.Statement.{statement}
 use Rattle.map.proofs.is_filled.Tie as tie
 
 returns : tie.Need-returns
-unfolding isFilled
+unfolding is_filled
 returns c = refl
 
 pub is-filled-spec : {M : Type 1} → statement M

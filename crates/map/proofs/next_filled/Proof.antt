@@ -7,23 +7,23 @@ use Prim.Native.Nat.{ℕ, ◌+◌, ◌-◌, ◌*◌, ◌/◌, ◌<◌, ◌≤◌
 use native.Mathlib.Decide.{dec_lt}
 use native.Mathlib.Omega.{arith}
 use lib.ListN.{length}
-use Rattle.map.specs.Map.{isFilled}
+use Rattle.map.specs.Map.{is_filled}
 use Rattle.map.proofs.Filled.{empty-cell}
 use Rattle.map.proofs.next_filled.Statement.{statement}
 use Rattle.map.proofs.next_filled.Tie as tie
 
 abbrev invariant-loop : tie.invariant-loop
-invariant-loop map first end n₀ n = (first ≤ n) × ((m : ℕ) → m < n → first ≤ m → isFilled map m ≡ false)
+invariant-loop map first end n₀ n = (first ≤ n) × ((m : ℕ) → m < n → first ≤ m → is_filled map m ≡ false)
 
 abbrev decreases-loop : tie.decreases-loop
 decreases-loop map first end n₀ n = end - n
 
 -- no cell is filled from `first` to n, nor from n to r; so none is to r
-further : (s : List ℕ) (first n r : ℕ) → ((m : ℕ) → m < n → first ≤ m → isFilled s m ≡ false) → ((m : ℕ) → n ≤ m → m < r → isFilled s m ≡ false)
-    → (m : ℕ) → m < r → first ≤ m → isFilled s m ≡ false
+further : (s : List ℕ) (first n r : ℕ) → ((m : ℕ) → m < n → first ≤ m → is_filled s m ≡ false) → ((m : ℕ) → n ≤ m → m < r → is_filled s m ≡ false)
+    → (m : ℕ) → m < r → first ≤ m → is_filled s m ≡ false
 further s first n r before after m u v = go (dec_lt m n)
   where
-    go : Dec (m < n) → isFilled s m ≡ false
+    go : Dec (m < n) → is_filled s m ≡ false
     go (yes l) = before m l v
     go (no l) = after m (omega arith) u
 
@@ -55,7 +55,7 @@ loop-again-2 c =
     let clear = sym c.before.is-filled.ensures ∙ c.if2.false in (
       omega (arith, l.loop.invariant.0),
       further a.map.now a.first l.loop.n (l.loop.n + 1) l.loop.invariant.1
-          (λ m h u. let same : m ≡ l.loop.n = omega (arith, h, u) in ap (isFilled a.map.now) same ∙ clear),
+          (λ m h u. let same : m ≡ l.loop.n = omega (arith, h, u) in ap (is_filled a.map.now) same ∙ clear),
     )
 
 -- none is left below `end`

@@ -4,13 +4,13 @@ use mathlib.Core.Path.{◌≡◌, refl}
 use Prim.Native.Nat.{◌+◌, ◌-◌}
 use native.Mathlib.Omega.{arith}
 use lib.ListN.{length, drop}
-use Rattle.number_list.specs.Inner.{lineLength}
+use Rattle.number_list.specs.Inner.{line_length}
 use Rattle.number_list.proofs.Runs.{line-more, line-stops, line-past}
 use Rattle.number_list.proofs.line_end.Statement.{statement}
 use Rattle.number_list.proofs.line_end.Tie as tie
 
 abbrev invariant-loop : tie.invariant-loop
-invariant-loop text at i₀ i = i + lineLength (drop i text) ≡ at + lineLength (drop at text)
+invariant-loop text at i₀ i = i + line_length (drop i text) ≡ at + line_length (drop at text)
 
 abbrev decreases-loop : tie.decreases-loop
 decreases-loop text at i₀ i = length text - i

@@ -13,7 +13,7 @@ use mir.Val.{to_z, of_z}
 use mir.Facts.{to_z-of_z}
 use Rattle.parse.specs.declared.Word.TheVariants.{Number}
 use Rattle.number_list.specs.Numbers.{fits, number_of, reading}
-use Rattle.number_list.specs.Inner.{isWord}
+use Rattle.number_list.specs.Inner.{is_word}
 use Rattle.number_list.proofs.Held.{number_fits}
 use Rattle.number_list.proofs.Runs.{word_more, word-most, line-more, line-most}
 use Rattle.number_list.proofs.Readings.{feed, blank, hash, word_number, word-wrong, past}
@@ -56,8 +56,8 @@ loop-again-3 c =
     (omega arith, omega arith, omega arith, omega arith, passed l.loop.invariant.4 (blank (l.loop.feeds + 1) l.before.before.args.text.now l.loop.i t c.if3.true))
 
 -- ---- a word
-here : (c : tie.After-word-end invariant-loop decreases-loop) → let l = c.before.before.before.before.before.before in isWord (get_or l.before.before.args.text.now l.loop.i 0) ≡ true
-unfolding isWord
+here : (c : tie.After-word-end invariant-loop decreases-loop) → let l = c.before.before.before.before.before.before in is_word (get_or l.before.before.args.text.now l.loop.i 0) ≡ true
+unfolding is_word
 here c = rw (ne_eqb _ _ c.before.before.before.if1.false, ne_eqb _ _ c.before.before.if2.false, ne_eqb _ _ c.before.if3.false)
 
 -- where the word ends

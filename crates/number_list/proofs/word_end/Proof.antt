@@ -5,13 +5,13 @@ use mathlib.Core.Path.{◌≡◌, refl, sym, ◌∙◌}
 use Prim.Native.Nat.{◌+◌, ◌-◌}
 use native.Mathlib.Omega.{arith}
 use lib.ListN.{length, drop}
-use Rattle.number_list.specs.Inner.{wordLength}
+use Rattle.number_list.specs.Inner.{word_length}
 use Rattle.number_list.proofs.Runs.{word_more, word-stops, word-past}
 use Rattle.number_list.proofs.word_end.Statement.{statement}
 use Rattle.number_list.proofs.word_end.Tie as tie
 
 abbrev invariant-loop : tie.invariant-loop
-invariant-loop text at i₀ i = i + wordLength (drop i text) ≡ at + wordLength (drop at text)
+invariant-loop text at i₀ i = i + word_length (drop i text) ≡ at + word_length (drop at text)
 
 abbrev decreases-loop : tie.decreases-loop
 decreases-loop text at i₀ i = length text - i

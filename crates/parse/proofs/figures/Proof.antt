@@ -7,13 +7,13 @@ use native.Mathlib.Omega.{arith}
 use lib.ListN.{length, get_or, drop}
 use mir.Facts.{to_z-of_z}
 use Rattle.parse.specs.declared.Word.TheVariants.{Number}
-use Rattle.parse.specs.Parse.{isFigure, figuresFrom, figures}
+use Rattle.parse.specs.Parse.{is_figure, figures_from, figures}
 use Rattle.parse.proofs.Laws.{figure-within, none, first, more, no-figure, too_many, all}
 use Rattle.parse.proofs.figures.Statement.{statement}
 use Rattle.parse.proofs.figures.Tie as tie
 
 abbrev invariant-loop : tie.invariant-loop
-invariant-loop s negative n₀ i₀ n i = (i ≤ length s) × (n < 10000000000000000) × (figuresFrom negative n (drop i s) ≡ figures negative s)
+invariant-loop s negative n₀ i₀ n i = (i ≤ length s) × (n < 10000000000000000) × (figures_from negative n (drop i s) ≡ figures negative s)
 
 abbrev decreases-loop : tie.decreases-loop
 decreases-loop s negative n₀ i₀ n i = length s - i
@@ -22,7 +22,7 @@ abbrev start : tie.After-is-figure invariant-loop decreases-loop → tie.Start i
 start c = c.before.before.before.before.before.before
 
 -- the character that was read is a figure, or is not
-test : (c : tie.After-is-figure invariant-loop decreases-loop) {b : Bool} → c.is-figure.result ≡ b → isFigure (get_or (start c).args.s.now c.before.before.before.loop.i 0) ≡ b
+test : (c : tie.After-is-figure invariant-loop decreases-loop) {b : Bool} → c.is-figure.result ≡ b → is_figure (get_or (start c).args.s.now c.before.before.before.loop.i 0) ≡ b
 test c e = sym c.is-figure.ensures ∙ e
 
 within : (c : tie.Then2 invariant-loop decreases-loop) → let k = get_or (start c.before).args.s.now c.before.before.before.before.loop.i 0 in (48 ≤ k) × (k < 58)
@@ -54,7 +54,7 @@ returns-4 c =
     let l = c.before.before.loop in
     let a = c.before.before.before.before.before.args in
     let end : length a.s.now ≡ l.i = omega arith in
-    ap Number (to_z-of_z (record { sfits = c.with-sign.type-inv }) ∙ c.with-sign.ensures) ∙ sym (all a.negative a.s.now l.n) ∙ ap (λ (k : ℕ). figuresFrom a.negative l.n (drop k a.s.now)) end ∙ l.invariant.2
+    ap Number (to_z-of_z (record { sfits = c.with-sign.type-inv }) ∙ c.with-sign.ensures) ∙ sym (all a.negative a.s.now l.n) ∙ ap (λ (k : ℕ). figures_from a.negative l.n (drop k a.s.now)) end ∙ l.invariant.2
 
 pub figures-spec : {M : Type 1} → statement M
 figures-spec =

@@ -3,7 +3,7 @@ use mathlib.Core.List.{List, [], ◌∷◌}
 use lib.IntN.{ℤ}
 use Rattle.integers.proofs.Expr.{Expr, var, ◌⊖◌, ◌⊗◌}
 use Rattle.integers.proofs.Machine.{Asks, asks, run}
-use Rattle.geometry.specs.Bounds.{offsetMax, each}
+use Rattle.geometry.specs.Bounds.{offset_max, each}
 use Rattle.placed.proofs.component.Statement.{statement}
 use Rattle.placed.proofs.component.Tie as tie
 
@@ -14,7 +14,7 @@ abbrev e : Expr
 e = (var 2 ⊖ var 0) ⊗ (var 5 ⊖ var 1) ⊖ (var 3 ⊖ var 1) ⊗ (var 4 ⊖ var 0)
 
 needed : (c : tie.Start) → Asks (ρ c) e
-needed c = asks (ρ c) e (each offsetMax 6 []) tt c.requires
+needed c = asks (ρ c) e (each offset_max 6 []) tt c.requires
 
 pub component-spec : {M : Type 1} → statement M
 component-spec =
@@ -27,4 +27,4 @@ component-spec =
     (λ c. (needed c).0.2)
     (λ c. (needed c).1.2)
     (λ c. (needed c).2)
-    (λ c. run (ρ c) e (each offsetMax 6 []) tt c.requires))
+    (λ c. run (ρ c) e (each offset_max 6 []) tt c.requires))

@@ -5,12 +5,12 @@ use lib.IntN.{ℤ}
 use Rattle.integers.specs.Within.{Withins}
 use Rattle.integers.proofs.Expr.{Expr, var, ◌⊖◌}
 use Rattle.integers.proofs.Machine.{asks, run}
-use Rattle.geometry.specs.Bounds.{coordinateMax, each}
+use Rattle.geometry.specs.Bounds.{coordinate_max, each}
 use Rattle.placed.proofs.difference.Statement.{statement}
 use Rattle.placed.proofs.difference.Tie as tie
 
 abbrev bs : List ℕ
-bs = each coordinateMax 6 []
+bs = each coordinate_max 6 []
 
 abbrev ρ : tie.Start → List ℤ
 ρ c = let v = c.args.a in let o = c.args.b in v.x ∷ v.y ∷ v.z ∷ o.x ∷ o.y ∷ o.z ∷ []

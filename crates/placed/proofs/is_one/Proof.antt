@@ -11,12 +11,12 @@ use lib.Signed.{le_z, lt_z}
 use mir.Syntax.{w64}
 use mir.Val.{to_z, of_z}
 use Rattle.integers.specs.Within.{Withins}
-use Rattle.integers.specs.Order.{minℤ, maxℤ}
+use Rattle.integers.specs.Order.{min_ℤ, max_ℤ}
 use Rattle.integers.proofs.Omega.{zarith}
 use Rattle.integers.proofs.Expr.{Expr, var, ◌⊕◌, ◌⊗◌, nth}
 use Rattle.integers.proofs.Machine.{Asks, mach, back, asks, run, learnt}
-use Rattle.geometry.specs.Bounds.{indexMax}
-use Rattle.placed.specs.Box.{isOne, oneBounds}
+use Rattle.geometry.specs.Bounds.{index_max}
+use Rattle.placed.specs.Box.{is_one, one_bounds}
 use Rattle.placed.proofs.is_one.Statement.{statement}
 use Rattle.placed.proofs.is_one.Tie as tie
 
@@ -31,7 +31,7 @@ abbrev ρi : tie.After-from-index → List ℤ
 ρi c = c.from-index.result ∷ ρ (start c)
 
 abbrev bs : List ℕ
-bs = indexMax ∷ oneBounds
+bs = index_max ∷ one_bounds
 
 index_is : (c : tie.After-from-index) → c.from-index.result ≡ pos (start c).args.r.first
 index_is c = c.from-index.ensures
@@ -61,23 +61,23 @@ high_is c = run (ρi c) high bs tt (ins c) ∙ (λ i. (start c).args.origin +ℤ
 abbrev Of : (ℤ → ℤ → ℤ) → ℤ → List ℤ → Type 0
 Of op r l = r ≡ op (nth l 0) (nth l 1)
 
-least-is : (c : tie.After-min2) → let a = (start c.before.before).args in to_z w64 (of_z w64 c.min2.result) ≡ minℤ (minℤ a.a0 a.a1) a.a2
+least-is : (c : tie.After-min2) → let a = (start c.before.before).args in to_z w64 (of_z w64 c.min2.result) ≡ min_ℤ (min_ℤ a.a0 a.a1) a.a2
 least-is c =
     let s = start c.before.before in
     let m = c.before.min in
-    let two = learnt (ρ s) (Of minℤ m.result) (var 3 ∷ var 4 ∷ []) oneBounds tt s.pre.0 m.ensures in
-    back w64 c.min2.type-inv ∙ c.min2.ensures ∙ ap₂ minℤ (back w64 m.type-inv ∙ two) (run (ρ s) (var 5) oneBounds tt s.pre.0)
+    let two = learnt (ρ s) (Of min_ℤ m.result) (var 3 ∷ var 4 ∷ []) one_bounds tt s.pre.0 m.ensures in
+    back w64 c.min2.type-inv ∙ c.min2.ensures ∙ ap₂ min_ℤ (back w64 m.type-inv ∙ two) (run (ρ s) (var 5) one_bounds tt s.pre.0)
 
-greatest-is : (c : tie.After-max2) → let a = (start c.before.before.before.before).args in to_z w64 (of_z w64 c.max2.result) ≡ maxℤ (maxℤ a.a0 a.a1) a.a2
+greatest-is : (c : tie.After-max2) → let a = (start c.before.before.before.before).args in to_z w64 (of_z w64 c.max2.result) ≡ max_ℤ (max_ℤ a.a0 a.a1) a.a2
 greatest-is c =
     let s = start c.before.before.before.before in
     let m = c.before.max in
-    let two = learnt (ρ s) (Of maxℤ m.result) (var 3 ∷ var 4 ∷ []) oneBounds tt s.pre.0 m.ensures in
-    back w64 c.max2.type-inv ∙ c.max2.ensures ∙ ap₂ maxℤ (back w64 m.type-inv ∙ two) (run (ρ s) (var 5) oneBounds tt s.pre.0)
+    let two = learnt (ρ s) (Of max_ℤ m.result) (var 3 ∷ var 4 ∷ []) one_bounds tt s.pre.0 m.ensures in
+    back w64 c.max2.type-inv ∙ c.max2.ensures ∙ ap₂ max_ℤ (back w64 m.type-inv ∙ two) (run (ρ s) (var 5) one_bounds tt s.pre.0)
 
 -- ---- the tests
-none : (s : tie.Start) → (s.args.r.end ≡ s.args.r.first + 1 → ⊥) → let a = s.args in false ≡ isOne a.r a.origin a.step a.extent a.a0 a.a1 a.a2
-none s h = let a = s.args in ap (λ (b : Bool). b && le_z (begin s) (minℤ (minℤ a.a0 a.a1) a.a2) && le_z (maxℤ (maxℤ a.a0 a.a1) a.a2) (begin s +ℤ a.extent)) (sym (ne_eqb _ _ h))
+none : (s : tie.Start) → (s.args.r.end ≡ s.args.r.first + 1 → ⊥) → let a = s.args in false ≡ is_one a.r a.origin a.step a.extent a.a0 a.a1 a.a2
+none s h = let a = s.args in ap (λ (b : Bool). b && le_z (begin s) (min_ℤ (min_ℤ a.a0 a.a1) a.a2) && le_z (max_ℤ (max_ℤ a.a0 a.a1) a.a2) (begin s +ℤ a.extent)) (sym (ne_eqb _ _ h))
 
 -- of three tests, the first two hold; the first holds and the second does not
 third : {a b : Bool} (c : Bool) → a ≡ true → b ≡ true → c ≡ (a && b && c)

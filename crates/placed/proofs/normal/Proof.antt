@@ -7,7 +7,7 @@ use mir.Syntax.{w64}
 use Rattle.integers.specs.Within.{Withins}
 use Rattle.integers.proofs.Expr.{Expr, var, nth}
 use Rattle.integers.proofs.Machine.{back, bounded, learnt}
-use Rattle.geometry.specs.Bounds.{offsetMax, each}
+use Rattle.geometry.specs.Bounds.{offset_max, each}
 use Rattle.forms.specs.Triangle.{component}
 use Rattle.placed.proofs.normal.Statement.{statement}
 use Rattle.placed.proofs.normal.Tie as tie
@@ -17,7 +17,7 @@ abbrev ρ : tie.Start → List ℤ
 ρ c = let a = c.args in a.t.v0.x ∷ a.t.v0.y ∷ a.t.v0.z ∷ a.t.v1.x ∷ a.t.v1.y ∷ a.t.v1.z ∷ a.t.v2.x ∷ a.t.v2.y ∷ a.t.v2.z ∷ []
 
 abbrev bs : List ℕ
-bs = each offsetMax 9 []
+bs = each offset_max 9 []
 
 ins : (c : tie.Start) → Withins bs (ρ c)
 ins c = let t = c.requires in (t.v0.x, (t.v0.y, (t.v0.z, (t.v1.x, (t.v1.y, (t.v1.z, (t.v2.x, (t.v2.y, (t.v2.z, tt)))))))))
@@ -58,7 +58,7 @@ pub normal-spec : {M : Type 1} → statement M
 normal-spec =
     tie.close
     (tie.spec
-    (λ c κs. let s = at0 c in bounded (ρ s) in-yz bs (each offsetMax 6 []) tt (ins s))
-    (λ c κs. let s = at0 (at1 c).before in bounded (ρ s) in-zx bs (each offsetMax 6 []) tt (ins s))
-    (λ c κs. let s = at0 (at1 (at2 c).before).before in bounded (ρ s) in-xy bs (each offsetMax 6 []) tt (ins s))
+    (λ c κs. let s = at0 c in bounded (ρ s) in-yz bs (each offset_max 6 []) tt (ins s))
+    (λ c κs. let s = at0 (at1 c).before in bounded (ρ s) in-zx bs (each offset_max 6 []) tt (ins s))
+    (λ c κs. let s = at0 (at1 (at2 c).before).before in bounded (ρ s) in-xy bs (each offset_max 6 []) tt (ins s))
     returns)

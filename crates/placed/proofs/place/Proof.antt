@@ -1,6 +1,6 @@
 -- `placed::place` meets its contract: the corners are measured, and the normal is theirs. Assumes nothing.
 use mathlib.Core.Path.{sym, ap, ◌∙◌, subst}
-use Rattle.geometry.specs.Bounds.{offsetMax, TriangleWithin}
+use Rattle.geometry.specs.Bounds.{offset_max, TriangleWithin}
 use Rattle.overlap.specs.Rule.{normal}
 use Rattle.placed.proofs.Measured.{measured-within}
 use Rattle.placed.proofs.place.Statement.{statement}
@@ -17,6 +17,6 @@ place-spec =
     tie.close
     (tie.spec
     (λ c κs. let p = c.requires in (p.2.first, p.3))
-    (λ c κs. let p = c.before.requires in subst (TriangleWithin offsetMax) (sym c.measured-from.ensures) (measured-within p.2.first p.3))
+    (λ c κs. let p = c.before.requires in subst (TriangleWithin offset_max) (sym c.measured-from.ensures) (measured-within p.2.first p.3))
     (λ c κs. let p = c.before.before.requires in (p.0, p.1))
     returns)

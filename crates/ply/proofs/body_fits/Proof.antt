@@ -5,7 +5,7 @@ use native.Mathlib.Omega.{arith}
 use lib.Dec.{eqb}
 use lib.ListN.{length}
 use Prim.Native.Nat.{ℕ, ◌-◌, ◌*◌, ◌≤◌}
-use Rattle.ply.specs.Body.{faceFrom, facePlace}
+use Rattle.ply.specs.Body.{face_from, face_place}
 use Rattle.ply.proofs.Taken.{before-body, few, room, vertex-place}
 use Rattle.ply.proofs.body_fits.Statement.{statement}
 use Rattle.ply.proofs.body_fits.Tie as tie
@@ -24,11 +24,11 @@ fits : (c : tie.Else2) → let z = c.before.before in let a = z.before.before.ar
 fits c = room c.before.before.size.ensures.1 c.if2.false
 
 returns-3 : tie.Need-returns-3
-unfolding facePlace
+unfolding face_place
 returns-3 c =
     let z = c.before.before.before in
     let a = z.before.before.args in
-    c.faces-fit.ensures ∙ ap (λ (p : ℕ). eqb (faceFrom a.s.now p a.f.faces) (length a.s.now)) (vertex-place a.f a.f.vertices z.size.ensures.0)
+    c.faces-fit.ensures ∙ ap (λ (p : ℕ). eqb (face_from a.s.now p a.f.faces) (length a.s.now)) (vertex-place a.f a.f.vertices z.size.ensures.0)
 
 pub body-fits-spec : {M : Type 1} → statement M
 body-fits-spec =

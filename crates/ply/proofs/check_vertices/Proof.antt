@@ -6,15 +6,15 @@ use Prim.Native.Nat.{ℕ, ◌+◌, ◌-◌, ◌≤◌}
 use native.Mathlib.Omega.{arith}
 use lib.ListN.{length}
 use Rattle.refusal.proofs.Asking.{each_none}
-use Rattle.ply_vertex.specs.Vertex.{size_of, vertexAt, placed}
-use Rattle.ply.specs.Body.{vertexPlace, vertexOf, vertexQuestion}
+use Rattle.ply_vertex.specs.Vertex.{size_of, vertex_at, placed}
+use Rattle.ply.specs.Body.{vertex_place, vertex_of, vertex_question}
 use Rattle.ply.proofs.Taken.{sized, vertices-in, vertex-in, vertex-next, vertex-first}
 use Rattle.ply.proofs.Asking.{Asking, ask-more, ask-no, ask-end}
 use Rattle.ply.proofs.check_vertices.Statement.{statement}
 use Rattle.ply.proofs.check_vertices.Tie as tie
 
 abbrev invariant-loop : tie.invariant-loop
-invariant-loop s f bytes vertices at₀ k₀ at k = Asking (vertexQuestion s f) (vertexPlace f) f.vertices at k
+invariant-loop s f bytes vertices at₀ k₀ at k = Asking (vertex_question s f) (vertex_place f) f.vertices at k
 
 abbrev decreases-loop : tie.decreases-loop
 decreases-loop s f bytes vertices at₀ k₀ at k = f.vertices - k
@@ -31,11 +31,11 @@ inside c =
 
 -- what was asked of it
 asked_of : (c : tie.After-is-placed invariant-loop decreases-loop) → let t = c.before in let a = (start t).args in
-    c.is-placed.result ≡ placed (vertexOf a.s.now a.f t.before.loop.k)
+    c.is-placed.result ≡ placed (vertex_of a.s.now a.f t.before.loop.k)
 asked_of c =
     let t = c.before in
     let a = (start t).args in
-    c.is-placed.ensures ∙ ap (λ (at : ℕ). placed (vertexAt a.s.now a.f at)) t.before.loop.invariant.is
+    c.is-placed.ensures ∙ ap (λ (at : ℕ). placed (vertex_at a.s.now a.f at)) t.before.loop.invariant.is
 
 returns : tie.Need-returns invariant-loop decreases-loop
 returns c =

@@ -3,7 +3,7 @@ use borrow.Author.Rules.{rules}
 use mathlib.Core.Path.{refl}
 use Prim.Native.Nat.{◌-◌}
 use native.Mathlib.Omega.{arith}
-use Rattle.ply.specs.Body.{faceFrom}
+use Rattle.ply.specs.Body.{face_from}
 use Rattle.ply.proofs.Places.{Walking, walk-cut, walk-over, walk_more, walk_end}
 use Rattle.ply.proofs.faces_fit.Statement.{statement}
 use Rattle.ply.proofs.faces_fit.Tie as tie
@@ -15,7 +15,7 @@ abbrev decreases-loop : tie.decreases-loop
 decreases-loop s at faces p₀ i₀ p i = faces - i
 
 loop-holds : tie.Need-loop-init invariant-loop decreases-loop
-unfolding faceFrom
+unfolding face_from
 loop-holds c = record { low = omega arith; is = refl }
 
 returns : tie.Need-returns invariant-loop decreases-loop

@@ -2,22 +2,22 @@
 use borrow.Author.Rules.{rules}
 use borrow.Author.Tests.{eq-eqb, ne_eqb, not-true, not-false}
 use mathlib.Core.Path.{sym, ◌∙◌}
-use Rattle.ply.specs.Body.{goodFace}
+use Rattle.ply.specs.Body.{good_face}
 use Rattle.ply.proofs.is_good.Statement.{statement}
 use Rattle.ply.proofs.is_good.Tie as tie
 
 returns : tie.Need-returns
-unfolding goodFace
+unfolding good_face
 returns c = rw (ne_eqb _ 3 c.if1.true)
 
 returns-2 : tie.Need-returns-2
-unfolding goodFace
+unfolding good_face
 returns-2 c =
     let i = c.before in
     rw (eq-eqb _ 3 i.before.if1.false, sym i.is-index.ensures ∙ not-true i.is-index.result c.if2.true)
 
 returns-3 : tie.Need-returns-3
-unfolding goodFace
+unfolding good_face
 returns-3 c =
     let j = c.before in
     let e = j.before in
@@ -29,7 +29,7 @@ returns-3 c =
     )
 
 returns-4 : tie.Need-returns-4
-unfolding goodFace
+unfolding good_face
 returns-4 c =
     let d = c.before in
     let j = d.before in

@@ -2,15 +2,15 @@
 use borrow.Author.Rules.{rules}
 use mathlib.Core.Path.{◌≡◌, ap, ◌∙◌}
 use Prim.Native.Nat.{ℕ, ◌<◌}
-use Rattle.bits.specs.Field.{twosComplement}
-use Rattle.ply.specs.Body.{index_at, isIndex}
+use Rattle.bits.specs.Field.{twos_complement}
+use Rattle.ply.specs.Body.{index_at, is_index}
 use Rattle.ply.proofs.Faces.{low-index, high-index}
 use Rattle.ply.proofs.is_index.Statement.{statement}
 use Rattle.ply.proofs.is_index.Tie as tie
 
 -- the index, as it was read
-said : (c : tie.After-word) → let a = c.before.before.args in isIndex a.n (twosComplement 32 c.word.result) ≡ isIndex a.n (index_at a.s.now a.at)
-said c = ap (λ (w : ℕ). isIndex c.before.before.args.n (twosComplement 32 w)) c.word.ensures
+said : (c : tie.After-word) → let a = c.before.before.args in is_index a.n (twos_complement 32 c.word.result) ≡ is_index a.n (index_at a.s.now a.at)
+said c = ap (λ (w : ℕ). is_index c.before.before.args.n (twos_complement 32 w)) c.word.ensures
 
 returns : tie.Need-returns
 returns c = low-index _ _ c.if1.true ∙ said c.before

@@ -1,4 +1,4 @@
--- `ply_header::read_digits` meets its contract: each turn is one step of `countFrom`. Assumes nothing.
+-- `ply_header::read_digits` meets its contract: each turn is one step of `count_from`. Assumes nothing.
 use borrow.Author.Tests.{not-true, not-false}
 use mathlib.Core.Bool.{true}
 use mathlib.Core.Path.{◌≡◌, refl, sym, ◌∙◌}

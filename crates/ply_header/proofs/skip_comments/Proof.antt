@@ -4,7 +4,7 @@ use Prim.Native.Nat.{◌-◌}
 use native.Mathlib.Omega.{arith}
 use lib.ListN.{length}
 use Rattle.ply_header.specs.declared.Found.TheVariants.{At}
-use Rattle.ply_header.specs.Inner.{commentWord}
+use Rattle.ply_header.specs.Inner.{comment_word}
 use Rattle.ply_header.proofs.Comments.{passed, Skipping, begins, inside, word, over, ends}
 use Rattle.ply_header.proofs.skip_comments.Statement.{statement}
 use Rattle.ply_header.proofs.skip_comments.Tie as tie
@@ -29,7 +29,7 @@ returns c =
     over l.before.loop.invariant e.if1.false l.loop-test.true (sym k.comment-word.ensures ∙ c.enum_told.given.1)
 
 -- the word was found
-found : (c : tie.After-j invariant-loop decreases-loop) → let l = c.before.before.before.before.before in commentWord l.before.before.args.s.now l.loop.i ≡ At c.j.given.0.0
+found : (c : tie.After-j invariant-loop decreases-loop) → let l = c.before.before.before.before.before in comment_word l.before.before.args.s.now l.loop.i ≡ At c.j.given.0.0
 found c = sym c.before.before.comment-word.ensures ∙ c.j.given.1
 
 loop-less-2 : tie.Need-loop-smaller-2 invariant-loop decreases-loop

@@ -6,14 +6,14 @@ use Prim.Native.Nat.{ℕ}
 use lib.Ieee.{binary32, binary64, of_bits, is_nan}
 use Rattle.ply_header.specs.declared.Scalar.{Scalar}
 use Rattle.ply_vertex.specs.Vertex.{width_of}
-use Rattle.ply_vertex.specs.Inner.{nanAt}
+use Rattle.ply_vertex.specs.Inner.{nan_at}
 use Rattle.ply_vertex.proofs.Patterns.{nan-of}
 use Rattle.ply_vertex.proofs.is_nan.Statement.{statement}
 use Rattle.ply_vertex.proofs.is_nan.Tie as tie
 
 -- the same of a type that is known
-at-type : (s : tie.Start) {t : Scalar} → s.args.t ≡ t → nanAt t s.args.s.now s.args.at ≡ nanAt s.args.t s.args.s.now s.args.at
-at-type s e = sym (ap (λ (u : Scalar). nanAt u s.args.s.now s.args.at) e)
+at-type : (s : tie.Start) {t : Scalar} → s.args.t ≡ t → nan_at t s.args.s.now s.args.at ≡ nan_at s.args.t s.args.s.now s.args.at
+at-type s e = sym (ap (λ (u : Scalar). nan_at u s.args.s.now s.args.at) e)
 
 returns : tie.Need-returns
 returns c =

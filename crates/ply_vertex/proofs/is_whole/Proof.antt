@@ -2,8 +2,8 @@
 use borrow.Author.Rules.{rules}
 use mathlib.Core.Path.{sym, ap, ◌∙◌}
 use lib.Ieee.{Float}
-use Rattle.rounding.specs.Rounding.{roundedOf, isWhole}
-use Rattle.rounding.specs.Widening.{widenedOf}
+use Rattle.rounding.specs.Rounding.{rounded_of, is_whole}
+use Rattle.rounding.specs.Widening.{widened_of}
 use Rattle.ply_vertex.proofs.Patterns.{nan-no}
 use Rattle.ply_vertex.proofs.is_whole.Statement.{statement}
 use Rattle.ply_vertex.proofs.is_whole.Tie as tie
@@ -17,7 +17,7 @@ returns c =
 returns-2 : tie.Need-returns-2
 returns-2 c =
     let w = c.before in
-    c.is_whole.ensures ∙ ap (λ (x : Float). isWhole (roundedOf x)) (w.widen.ensures.0 ∙ ap widenedOf w.before.number.ensures)
+    c.is_whole.ensures ∙ ap (λ (x : Float). is_whole (rounded_of x)) (w.widen.ensures.0 ∙ ap widened_of w.before.number.ensures)
 
 pub is-whole-spec : {M : Type 1} → statement M
 is-whole-spec =

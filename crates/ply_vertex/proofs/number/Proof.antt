@@ -7,11 +7,11 @@ use Prim.Native.Nat.{ℕ}
 use lib.Ieee.{binary32, binary64, of_bits, is_nan}
 use mir.Syntax.{w32}
 use mir.ValLaws.{to_z-of_z}
-use Rattle.bits.specs.Field.{twosComplement}
+use Rattle.bits.specs.Field.{twos_complement}
 use Rattle.rounding.specs.declared.Number.TheVariants as N
 use Rattle.ply_header.specs.declared.Scalar.{Scalar}
 use Rattle.ply_vertex.specs.Vertex.{width_of, number_at}
-use Rattle.ply_vertex.specs.Inner.{nanAt}
+use Rattle.ply_vertex.specs.Inner.{nan_at}
 use Rattle.ply_vertex.proofs.Patterns.{not-nan}
 use Rattle.ply_vertex.proofs.number.Statement.{statement}
 use Rattle.ply_vertex.proofs.number.Tie as tie
@@ -21,8 +21,8 @@ at-type : (s : tie.Start) {t : Scalar} → s.args.t ≡ t → number_at t s.args
 at-type s e = sym (ap (λ (u : Scalar). number_at u s.args.s.now s.args.at) e)
 
 -- its pattern is that of a number
-number-at : (s : tie.Start) {t : Scalar} → s.args.t ≡ t → nanAt t s.args.s.now s.args.at ≡ false
-number-at s e = sym (ap (λ (u : Scalar). nanAt u s.args.s.now s.args.at) e) ∙ s.requires.1
+number-at : (s : tie.Start) {t : Scalar} → s.args.t ≡ t → nan_at t s.args.s.now s.args.at ≡ false
+number-at s e = sym (ap (λ (u : Scalar). nan_at u s.args.s.now s.args.at) e) ∙ s.requires.1
 
 float_from_bits : tie.Need-float-from-bits-t6
 float_from_bits c =
@@ -47,7 +47,7 @@ returns-2 c =
 returns-3 : tie.Need-returns-3
 returns-3 c =
     let told = c.before.before in
-    ap N.Int (to_z-of_z w32 c.signed.result (search rules) ∙ c.signed.ensures ∙ ap (twosComplement 32) c.before.word2.ensures)
+    ap N.Int (to_z-of_z w32 c.signed.result (search rules) ∙ c.signed.ensures ∙ ap (twos_complement 32) c.before.word2.ensures)
     ∙ at-type told.before.before.before told.enum-told3.given.1
 
 pub number-spec : {M : Type 1} → statement M

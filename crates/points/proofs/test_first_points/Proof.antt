@@ -54,13 +54,13 @@ use denote.Triple.Clauses.{ensured, lasts}
 use borrow.Table.OneValue.{part_in, part_out}
 use Rattle.route.specs.declared.RouteAnswer.{RouteAnswer}
 use Rattle.refusal.specs.Limit.{Answer}
-use Rattle.demand.specs.Route.{Finding, routeAnswer}
-use Rattle.route.specs.Said.{saidRoute}
+use Rattle.demand.specs.Route.{Finding, route_answer}
+use Rattle.route.specs.Said.{said_route}
 use Rattle.demand.specs.Demand.{DemandOf, FirstOf}
 use Rattle.route.specs.contracts.RouteAnswer as R
 use Rattle.route.proofs.RouteAnswer.TheLaws as R'
 use Rattle.points.specs.declared.Point.{Point}
-use Rattle.points.specs.Points.{numbersOf}
+use Rattle.points.specs.Points.{numbers_of}
 use Rattle.points.proofs.Numbers.{take_min}
 use Rattle.points.proofs.Callees.{slice, bytes, Counted, Count, to-count, goes-count, count-said, Lent, again}
 use Rattle.points.specs.contracts.Point as T
@@ -168,10 +168,10 @@ module _ {M : Type 1} {𝓤 : Ura M} (𝓛 : Logic 𝓤) (mem : Memory → SProp
 
   -- the answer for a list of points
   abbrev answer : List Point → Answer Finding
-  answer ps = routeAnswer file.now map.now (numbersOf ps)
+  answer ps = route_answer file.now map.now (numbers_of ps)
 
   abbrev Meant : List Point → RouteAnswer → Type 0
-  Meant ps r = (saidRoute r ≡ answer ps) × DemandOf file.now map.now (numbersOf ps) (saidRoute r) × FirstOf file.now map.now (numbersOf ps) (saidRoute r)
+  Meant ps r = (said_route r ≡ answer ps) × DemandOf file.now map.now (numbers_of ps) (said_route r) × FirstOf file.now map.now (numbers_of ps) (said_route r)
 
   opens : ent 𝓤 (mean 𝓛 Entry) (mean 𝓛 (Tokens ⊛ L))
   opens = qed 𝓛 (Tokens ∷ ‵ (owns (ShrSlice (named 0) κ₀ u8 ∷ ShrSlice (named 1) κ₁ u8 ∷ Pts ∷ usize ∷ []) (file, (map, (xs, (n, tt)))) (slice file ∷ [], (slice map ∷ [], (vals xs, (vint w64 n ∷ [], tt))))) ∷ []) ∵

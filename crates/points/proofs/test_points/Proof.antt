@@ -58,14 +58,14 @@ use denote.Triple.Clauses.{ensured, lasts}
 use borrow.Author.Tests.{lt-ltb, le-ltb}
 use Rattle.route.specs.declared.RouteAnswer.{RouteAnswer}
 use Rattle.refusal.specs.Limit.{Answer}
-use Rattle.demand.specs.Route.{Finding, routeAnswer}
-use Rattle.route.specs.Said.{saidRoute}
+use Rattle.demand.specs.Route.{Finding, route_answer}
+use Rattle.route.specs.Said.{said_route}
 use Rattle.demand.proofs.Demand.{demand-of}
 use Rattle.route.specs.contracts.RouteAnswer as R
 use Rattle.route.proofs.RouteAnswer.TheLaws as R'
 use Rattle.points.specs.declared.Point.{Point}
-use Rattle.points.specs.Points.{numbersOf}
-use Rattle.points.specs.Inner.{withPoint}
+use Rattle.points.specs.Points.{numbers_of}
+use Rattle.points.specs.Inner.{with_point}
 use Rattle.points.proofs.Numbers.{one_more}
 use Rattle.points.proofs.TooMany.{copied-answer}
 use Rattle.points.proofs.Callees.{slice, bytes, Counted, Count, to-count, goes-count, count-said, Lent, again}
@@ -102,8 +102,8 @@ Nums = Array i16 195
 abbrev zeros : List ℤ
 zeros = replicate 195 (pos 0)
 
-abbrev zeroVal : Val
-zeroVal = array_val (replicate 195 (vint w16 0))
+abbrev zero_val : Val
+zero_val = array_val (replicate 195 (vint w16 0))
 
 -- the locals' types
 abbrev word : Ty
@@ -143,13 +143,13 @@ module _ {M : Type 1} {𝓤 : Ura M} (𝓛 : Logic 𝓤) (mem : Memory → SProp
       owned ! usize (Is usize) (uint_Makes 𝓛 w64) i _ (refl, omega (arith, l)) $ fjoin ! $
       owned ! Nums (Is Nums) (Array-Makes 𝓛 i16 (sint_Makes 𝓛 w16) 195) xs _ a $ fjoin ! $ nothing ! $ done !
 
-  put-said : (xs : List ℤ) (i : ℕ) (p : Point) (r : List ℤ) → ent 𝓤 (ensured 𝓛 put.ended (put.clauses 𝓛 mem run) tt (xs, (i, (p, tt))) tt r) (fact 𝓤 (r ≡ withPoint xs i p))
-  put-said xs i p r = ex_e 𝓤 _ (λ ws. snd∗ 𝓤 (sem 𝓛 (lasts put.ended tt (xs, (i, (p, tt))) ws)) (fact 𝓤 (r ≡ withPoint xs i p)))
+  put-said : (xs : List ℤ) (i : ℕ) (p : Point) (r : List ℤ) → ent 𝓤 (ensured 𝓛 put.ended (put.clauses 𝓛 mem run) tt (xs, (i, (p, tt))) tt r) (fact 𝓤 (r ≡ with_point xs i p))
+  put-said xs i p r = ex_e 𝓤 _ (λ ws. snd∗ 𝓤 (sem 𝓛 (lasts put.ended tt (xs, (i, (p, tt))) ws)) (fact 𝓤 (r ≡ with_point xs i p)))
 
-zeros-are : {M : Type 1} {𝓤 : Ura M} (𝓛 : Logic 𝓤) → ent 𝓤 (emp 𝓤) (sem 𝓛 (Nums.own_val zeros (zeroVal ∷ [])))
+zeros-are : {M : Type 1} {𝓤 : Ura M} (𝓛 : Logic 𝓤) → ent 𝓤 (emp 𝓤) (sem 𝓛 (Nums.own_val zeros (zero_val ∷ [])))
 zeros-are 𝓛 =
     qed 𝓛 [] ∵ owned ! i16 (Is i16) (sint_Makes 𝓛 w16) (pos 0) (vint w16 0 ∷ []) (refl, lit< tt) $
-    use1 𝓛 (‵ (Nums.own_val zeros (zeroVal ∷ []))) (Array-repeat 𝓛 i16 (sint_copy 𝓛 w16) 195 (pos 0) (vint w16 0)) $ done !
+    use1 𝓛 (‵ (Nums.own_val zeros (zero_val ∷ []))) (Array-repeat 𝓛 i16 (sint_copy 𝓛 w16) 195 (pos 0) (vint w16 0)) $ done !
 
 module _ {M : Type 1} {𝓤 : Ura M} (𝓛 : Logic 𝓤) (mem : Memory → SProp 𝓤) (run : Routine → Fun 𝓤) (κ₀ κ₁ κ₂ : Lft) (q₀ q₁ q₂ : Share) (file map : Bor (List ℕ))
     (b o : ℕ) (γ : GName) (ps : List Point) where
@@ -214,8 +214,8 @@ module _ {M : Type 1} {𝓤 : Ura M} (𝓛 : Logic 𝓤) (mem : Memory → SProp
       qed 𝓛 (Rest ∷ []) ∵ split ! $ move ! (1 ∷ []) $ split ! $ use1 𝓛 (L ⊛ L) (again 𝓛 κ₀ κ₁ file map) $ split ! $
       move ! (3 ∷ 0 ∷ []) $ use2 𝓛 (raw ((Test 𝓛 mem run).pre (to-test xs u k))) (goes-test xs u k a l) $ frame ! $ join ! $ done !
 
-  test-said : (xs : List ℤ) (k : ℕ) (r : RouteAnswer) → ent 𝓤 (ensured 𝓛 test.ended (test.clauses 𝓛 mem run) (κ₀, (κ₁, tt)) (file, (map, (xs, (k, tt)))) tt r) (fact 𝓤 (saidRoute r ≡ routeAnswer file.now map.now (take (3 * k) xs)))
-  test-said xs k r = ex_e 𝓤 _ (λ ws. snd∗ 𝓤 (sem 𝓛 (lasts test.ended (κ₀, (κ₁, tt)) (file, (map, (xs, (k, tt)))) ws)) (fact 𝓤 (saidRoute r ≡ routeAnswer file.now map.now (take (3 * k) xs))))
+  test-said : (xs : List ℤ) (k : ℕ) (r : RouteAnswer) → ent 𝓤 (ensured 𝓛 test.ended (test.clauses 𝓛 mem run) (κ₀, (κ₁, tt)) (file, (map, (xs, (k, tt)))) tt r) (fact 𝓤 (said_route r ≡ route_answer file.now map.now (take (3 * k) xs)))
+  test-said xs k r = ex_e 𝓤 _ (λ ws. snd∗ 𝓤 (sem 𝓛 (lasts test.ended (κ₀, (κ₁, tt)) (file, (map, (xs, (k, tt)))) ws)) (fact 𝓤 (said_route r ≡ route_answer file.now map.now (take (3 * k) xs))))
 
   -- the entry, and the exit
   opens : ent 𝓤 (mean 𝓛 Entry) (mean 𝓛 (‵ (flft κ₂ q₂) ⊛ ‵ Shr ⊛ Rest))
@@ -227,12 +227,12 @@ module _ {M : Type 1} {𝓤 : Ura M} (𝓛 : Logic 𝓤) (mem : Memory → SProp
       -- [res; the fractured borrow; the points' fact; true; the map; the file; the tokens]
       move ! (1 ∷ []) $ frame ! $ move ! (5 ∷ []) $ frame ! $ move ! (4 ∷ 3 ∷ []) $ join ! $ frame ! $ keep ! (0 ∷ 1 ∷ []) $ done !
 
-  exits : (r : RouteAnswer) (u : Val) → saidRoute r ≡ routeAnswer file.now map.now (numbersOf ps)
+  exits : (r : RouteAnswer) (u : Val) → said_route r ≡ route_answer file.now map.now (numbers_of ps)
       → ent 𝓤 (⋆ 𝓛 (‵ ((R.the_row).own_val r (u ∷ [])) ∷ Tokens₂ ∷ Kept ∷ ‵ (flft κ₂ q₂) ∷ ‵ Shr ∷ [])) (Post u)
   exits r u e =
       qed 𝓛 (‵ ((R.the_row).own_val r (u ∷ [])) ∷ Tokens₂ ∷ Kept ∷ ‵ (flft κ₂ q₂) ∷ ‵ Shr ∷ []) ∵
       suffices ! _ (ends_at 𝓛 self.ended stayed (self.clauses 𝓛 mem run) asked u r (tt, (tt, (tt, tt))) (tt, (tt, (tt, tt)))) $
-      says ! (demand-of file.now map.now (numbersOf ps) e) $
+      says ! (demand-of file.now map.now (numbers_of ps) e) $
       move ! (1 ∷ []) $ split ! $ move ! (1 ∷ []) $ split ! $
       -- [token 1; true; token 0; the answer; what is kept; token 2; the fractured borrow]
       move ! (5 ∷ 1 ∷ []) $ join ! $ move ! (1 ∷ 0 ∷ []) $ join ! $ move ! (1 ∷ 0 ∷ []) $ join ! $ frame ! $
@@ -272,7 +272,7 @@ module _ {M : Type 1} {𝓤 : Ura M} (𝓛 : Logic 𝓤) (mem : Memory → SProp
 
     -- i points are copied, and t are left
     abbrev Facts : ℕ → ℕ → List ℤ → Val → Type 0
-    Facts t i xs u = (i + t ≡ k) × ((take (3 * i) xs ≡ numbersOf (take i ps)) × Is Nums xs (u ∷ []))
+    Facts t i xs u = (i + t ≡ k) × ((take (3 * i) xs ≡ numbers_of (take i ps)) × Is Nums xs (u ∷ []))
 
     abbrev Held : ℕ → ℕ × (List ℤ × Val) → Item 𝓤
     Held t w = given (Facts t w.0 w.1.0 w.1.1) (Ctr w.0 ⊛ Arr w.1.1)
@@ -309,7 +309,7 @@ module _ {M : Type 1} {𝓤 : Ura M} (𝓛 : Logic 𝓤) (mem : Memory → SProp
         use0 𝓛 (raw ((Put 𝓛 mem run).pre (to-put 𝓛 mem run xs u i (elem i)))) (goes-put 𝓛 mem run xs u i (elem i) f.1.1 i<65 g) $
         calls_at ! fm (Put 𝓛 mem run) known.1.0 (to-put 𝓛 mem run xs u i (elem i)) (and_then ! (load ! (from ! (stop !)) (look ! 4 refl)) (and_then ! (load ! (from ! (stop !)) (look ! 3 refl)) (and_then ! (load ! (from ! (stop !)) (look ! 6 refl)) (no_more !)))) (λ u'.
         use1 𝓛 (later (some (λ (r : List ℤ). (‵ ftrue ⊛ ‵ (Nums.own_val r (u' ∷ []))) ⊛ raw (ensured 𝓛 put.ended (put.clauses 𝓛 mem run) tt (xs, (i, ((elem i), tt))) tt r)))) (id⊢ 𝓤 _) $ await ! tt $ pick ! (λ r.
-        split ! $ move ! (1 ∷ []) $ use1 𝓛 (raw (fact 𝓤 (r ≡ withPoint xs i (elem i)))) (put-said 𝓛 mem run xs i (elem i) r) $ heard ! (r ≡ withPoint xs i (elem i)) (λ e. split ! $ drop ! $
+        split ! $ move ! (1 ∷ []) $ use1 𝓛 (raw (fact 𝓤 (r ≡ with_point xs i (elem i)))) (put-said 𝓛 mem run xs i (elem i) r) $ heard ! (r ≡ with_point xs i (elem i)) (λ e. split ! $ drop ! $
         facts ! Nums (Is Nums) (shows 𝓛 Nums) r (u' ∷ []) (λ is.
         land ! (from ! (stop !)) (store ! 3 refl ((Array-Lawful 𝓛 i16 (sint_Lawful 𝓛 w16) 195).typed r _ is).0) $
         assigns_last ! (bin ! (load ! (from ! (stop !)) (look ! 2 refl)) (lit ! tt) (record { fits = next_fits })) (from ! (stop !)) (store ! 2 refl (tt, record { fits = next_fits })) $
@@ -348,7 +348,7 @@ module _ {M : Type 1} {𝓤 : Ura M} (𝓛 : Logic 𝓤) (mem : Memory → SProp
         calls_at ! fm (Test 𝓛 mem run) known.1.1 (to-test xs u k)
         (and_then ! (load ! (from ! (stop !)) (look ! 14 refl)) (and_then ! (load ! (from ! (stop !)) (look ! 13 refl)) (and_then ! (load ! (from ! (stop !)) (look ! 3 refl)) (and_then ! (load ! (from ! (stop !)) (look ! 11 refl)) (no_more !))))) (λ u'.
         use1 𝓛 (later (some (λ (r : RouteAnswer). (Tokens₂ ⊛ ‵ ((R.the_row).own_val r (u' ∷ []))) ⊛ raw (ensured 𝓛 test.ended (test.clauses 𝓛 mem run) (κ₀, (κ₁, tt)) (file, (map, (xs, (k, tt)))) tt r)))) (id⊢ 𝓤 _) $ await ! tt $ pick ! (λ r.
-        split ! $ move ! (1 ∷ []) $ use1 𝓛 (raw (fact 𝓤 (saidRoute r ≡ routeAnswer file.now map.now (take (3 * k) xs)))) (test-said xs k r) $ heard ! (saidRoute r ≡ routeAnswer file.now map.now (take (3 * k) xs)) (λ e. split ! $ move ! (1 ∷ []) $
+        split ! $ move ! (1 ∷ []) $ use1 𝓛 (raw (fact 𝓤 (said_route r ≡ route_answer file.now map.now (take (3 * k) xs)))) (test-said xs k r) $ heard ! (said_route r ≡ route_answer file.now map.now (take (3 * k) xs)) (λ e. split ! $ move ! (1 ∷ []) $
         -- [the answer; tokens 0 and 1; what is kept; _6; _5; token 2; the fractured borrow; _11; …; _0; …]
         peeks ! R.the_row (Is R.the_row) (shows 𝓛 R.the_row) r (u' ∷ []) (λ is.
         land ! (from ! (stop !)) (init ! 16 refl ((EL.lawful R.the_type R'.the_laws 𝓛 tt).typed r _ is).0) $
@@ -361,10 +361,10 @@ module _ {M : Type 1} {𝓤 : Ura M} (𝓛 : Logic 𝓤) (mem : Memory → SProp
         i-is = omega (arith, f.0)
 
         answer : List ℤ → Answer Finding
-        answer = routeAnswer file.now map.now
+        answer = route_answer file.now map.now
 
-        copied : take (3 * k) xs ≡ numbersOf (take (min n 65) ps)
-        copied = ap (λ (j : ℕ). take (3 * j) xs) (sym i-is) ∙ f.1.0 ∙ ap (λ (j : ℕ). numbersOf (take j ps)) (i-is ∙ k-is)
+        copied : take (3 * k) xs ≡ numbers_of (take (min n 65) ps)
+        copied = ap (λ (j : ℕ). take (3 * j) xs) (sym i-is) ∙ f.1.0 ∙ ap (λ (j : ℕ). numbers_of (take j ps)) (i-is ∙ k-is)
 
     turn : (t : ℕ) → Sq 𝓛 (Inv t) (runs C Λ En mir.turn-1 (any_q (after_turn 𝓤 H (Below 𝓛 ◌<◌ Inv t) Left)))
     turn zero = pick ! (λ w. learn ! (λ f. split ! $ ends zero w.0 w.1.0 w.1.1 f))
@@ -378,12 +378,12 @@ module _ {M : Type 1} {𝓤 : Ura M} (𝓛 : Logic 𝓤) (mem : Memory → SProp
         ∷ ‵ (froom R'.mir l₀ 0) ∷ ‵ (fdies R'.mir l₀) ∷ Entry ∷ [])
         (runs C Λ En mir.t-3 (at_ret En Post))
     rest =
-        use0 𝓛 (‵ (Nums.own_val zeros (zeroVal ∷ []))) (zeros-are 𝓛) $ facts ! Nums (Is Nums) (shows 𝓛 Nums) zeros (zeroVal ∷ []) (λ are.
+        use0 𝓛 (‵ (Nums.own_val zeros (zero_val ∷ []))) (zeros-are 𝓛) $ facts ! Nums (Is Nums) (shows 𝓛 Nums) zeros (zero_val ∷ []) (λ are.
         assigns ! (rep ! 195 (lit ! tt)) (from ! (stop !)) (init ! 12 refl ((Array-Lawful 𝓛 i16 (sint_Lawful 𝓛 w16) 195).typed zeros _ are).0) $
         assigns ! (of_opd ! (lit ! tt)) (from ! (stop !)) (init ! 10 refl (tt, record { fits = lit< tt })) $
         first ! $ blocks ! $ move ! (24 ∷ []) $ use1 𝓛 (‵ (flft κ₂ q₂) ⊛ ‵ Shr ⊛ Rest) opens $ split3 ! $
         keep ! (13 ∷ 15 ∷ 0 ∷ 1 ∷ 2 ∷ 3 ∷ 5 ∷ 7 ∷ 9 ∷ 11 ∷ 17 ∷ 19 ∷ 21 ∷ 23 ∷ 25 ∷ 4 ∷ 6 ∷ 8 ∷ 10 ∷ 12 ∷ 14 ∷ 16 ∷ 18 ∷ 20 ∷ 22 ∷ 24 ∷ 26 ∷ []) $
-        packs k 0 zeros zeroVal (omega arith, (refl, are)) (loops ! 𝓣 ◌<◌ lt-wf_rel.wf Inv turn k))
+        packs k 0 zeros zero_val (omega arith, (refl, are)) (loops ! 𝓣 ◌<◌ lt-wf_rel.wf Inv turn k))
 
   -- ---- the body
   module _ (𝓣 : Tables 𝓤 H) (known : Known 𝓛 mem run 𝓣) where

@@ -3,15 +3,15 @@ use Rattle.std.proofs.Common.{◌≡◌, true, sym, ap, ◌∙◌, w32, rules}
 use lib.Ieee.{of_bits, neg}
 use mir.ValLaws.{to_z-of_z}
 use Rattle.rounding.specs.declared.Rounded.TheVariants.{Whole}
-use Rattle.rounding.specs.Rounding.{roundedOf, isWhole}
+use Rattle.rounding.specs.Rounding.{rounded_of, is_whole}
 use Rattle.rounding.proofs.Cases.{in-range, too-low, too-high, holds, fails}
 use Rattle.rounding.proofs.Meaning.{told, whole_back}
 use Rattle.rounding.proofs.nearest.Statement.{statement}
 use Rattle.rounding.proofs.nearest.Tie as tie
 
-between : (c : tie.Then2) → isWhole (roundedOf c.before.before.args.x) ≡ true
+between : (c : tie.Then2) → is_whole (rounded_of c.before.before.args.x) ≡ true
 unfolding of_bits neg
-between c = ap isWhole (in-range c.before.before.args.x (holds c.before.if1.true) (holds c.if2.true))
+between c = ap is_whole (in-range c.before.before.args.x (holds c.before.if1.true) (holds c.if2.true))
 
 returns : tie.Need-returns
 returns c = told _ (ap Whole (to_z-of_z w32 c.whole.result (search rules) ∙ c.whole.ensures) ∙ whole_back _ (between c.before))

@@ -5,12 +5,12 @@ use mathlib.Core.Bool.{true}
 use mathlib.Core.Path.{◌≡◌, sym, ap, ◌∙◌}
 use Prim.Native.Nat.{ℕ}
 use lib.Dec.{leb}
-use Rattle.refusal.specs.Questions.{ofEach}
+use Rattle.refusal.specs.Questions.{of_each}
 use Rattle.refusal.specs.Inner.{asked}
 use Rattle.refusal.proofs.Asking.{stopped, through}
-use Rattle.map.specs.Map.{mapLength}
-use Rattle.grid.specs.Grid.{cellCount}
-use Rattle.demand.specs.Route.{points_of, countFits, pointQuestion}
+use Rattle.map.specs.Map.{map_length}
+use Rattle.grid.specs.Grid.{cell_count}
+use Rattle.demand.specs.Route.{points_of, count_fits, point_question}
 use Rattle.demand.proofs.Points.{points-length}
 use Rattle.route.proofs.check_last.Statement.{statement}
 use Rattle.route.proofs.check_last.Tie as tie
@@ -19,11 +19,11 @@ abbrev start : tie.After-map-length → tie.Start
 start c = c.before.before
 
 -- the map's length
-long : (c : tie.After-map-length) → c.map-length.result ≡ mapLength (cellCount (start c).args.g)
-long c = c.map-length.ensures ∙ ap mapLength c.before.cell-count.ensures.0
+long : (c : tie.After-map-length) → c.map-length.result ≡ map_length (cell_count (start c).args.g)
+long c = c.map-length.ensures ∙ ap map_length c.before.cell-count.ensures.0
 
 -- each question that was answered yes
-yes8 : (c : tie.Else1) → let a = (start c.before).args in leb (mapLength (cellCount a.g)) a.len ≡ true
+yes8 : (c : tie.Else1) → let a = (start c.before).args in leb (map_length (cell_count a.g)) a.len ≡ true
 yes8 c = le-leb _ _ (rw (long c.before) at c.if1.false)
 
 returns : tie.Need-returns
@@ -42,7 +42,7 @@ returns-4 c =
     sym (through _ _ _ (yes8 e2.before) ∙ stopped _ _ _ (rw (le-leb 2 _ e2.if2.false, le-leb _ 64 e3.if3.false, ne_eqb _ 0 c.if4.true)))
 
 -- question 9
-yes9 : (c : tie.Else4) → countFits (start c.before.before.before.before).args.numbers.now ≡ true
+yes9 : (c : tie.Else4) → count_fits (start c.before.before.before.before).args.numbers.now ≡ true
 yes9 c =
     let e3 = c.before in
     let e2 = e3.before in
@@ -54,7 +54,7 @@ returns-5 c =
     let e1 = e4.before.before.before in
     let a = (start e1.before).args in
     c.check-points.ensures
-    ∙ ap (λ (n : ℕ). asked (ofEach (pointQuestion a.g (points_of a.numbers.now)) n)) (sym (points-length a.numbers.now))
+    ∙ ap (λ (n : ℕ). asked (of_each (point_question a.g (points_of a.numbers.now)) n)) (sym (points-length a.numbers.now))
     ∙ sym (through _ _ _ (yes8 e1) ∙ through _ _ _ (yes9 e4))
 
 pub check-last-spec : {M : Type 1} → statement M

@@ -6,14 +6,14 @@ use mir.Val.{to_z, of_z}
 use Rattle.integers.proofs.Machine.{back}
 use Rattle.geometry.specs.Geometry.{point}
 use Prim.Native.Nat.{◌*◌}
-use Rattle.layout.specs.Values.{pointFrom}
+use Rattle.layout.specs.Values.{point_from}
 use Rattle.demand.proofs.Points.{point-is}
 use Rattle.route.proofs.point_at.Statement.{statement}
 use Rattle.route.proofs.point_at.Tie as tie
 
 -- the three numbers, as they are read
 read : (c : tie.After-read-i163) → let y = c.before in let x = y.before in let a = x.before.args in
-    point (to_z w64 (of_z w64 x.read-i16.result)) (to_z w64 (of_z w64 y.read-i162.result)) (to_z w64 (of_z w64 c.read-i163.result)) ≡ pointFrom a.numbers.now (3 * a.m)
+    point (to_z w64 (of_z w64 x.read-i16.result)) (to_z w64 (of_z w64 y.read-i162.result)) (to_z w64 (of_z w64 c.read-i163.result)) ≡ point_from a.numbers.now (3 * a.m)
 read c =
     let y = c.before in
     let x = y.before in

@@ -8,24 +8,24 @@ use lib.Dec.{lit≤}
 use lib.IntN.{ℤ}
 use Rattle.geometry.specs.Bounds.{BoundedPoint}
 use Rattle.geometry.specs.declared.Point.{Point}
-use Rattle.map.specs.Map.{isFilled}
+use Rattle.map.specs.Map.{is_filled}
 use Rattle.refusal.specs.Limit.{gives}
 use Rattle.touch.specs.declared.Found.{Found}
-use Rattle.first_hit.specs.FirstHit.{firstHit}
+use Rattle.first_hit.specs.FirstHit.{first_hit}
 use Rattle.grid.specs.declared.Grid.{Grid}
 use Rattle.grid.proofs.Usable.{usable-weaken}
-use Rattle.demand.specs.Route.{pointCount, points_of, pointAt, legCount, firstBlocked, tested, free}
+use Rattle.demand.specs.Route.{point_count, points_of, point_at, leg_count, first_blocked, tested, free}
 use Rattle.demand.proofs.First.{legs-none, legs-more, legs-blocked}
 use Rattle.demand.proofs.Points.{points-length, point-bounded}
 use Rattle.route.proofs.test_legs.Statement.{statement}
 use Rattle.route.proofs.test_legs.Tie as tie
 
 -- the cell that is found on leg m
-abbrev onLeg : List ℕ → Grid → List ℤ → ℕ → Found
-onLeg map g numbers m = let ps = points_of numbers in firstHit (isFilled map) g (pointAt ps m) (pointAt ps (m + 1))
+abbrev on_leg : List ℕ → Grid → List ℤ → ℕ → Found
+on_leg map g numbers m = let ps = points_of numbers in first_hit (is_filled map) g (point_at ps m) (point_at ps (m + 1))
 
 abbrev invariant-loop : tie.invariant-loop
-invariant-loop g map numbers legs m₀ m = (m ≤ legs) × (firstBlocked (onLeg map g numbers) m ≡ free)
+invariant-loop g map numbers legs m₀ m = (m ≤ legs) × (first_blocked (on_leg map g numbers) m ≡ free)
 
 abbrev decreases-loop : tie.decreases-loop
 decreases-loop g map numbers legs m₀ m = legs - m
@@ -35,14 +35,14 @@ start c = c.before.before
 
 module _ (s : tie.Start invariant-loop decreases-loop) where
   abbrev find : ℕ → Found
-  find = onLeg s.args.map.now s.args.g s.args.numbers.now
+  find = on_leg s.args.map.now s.args.g s.args.numbers.now
 
   -- the number of legs
-  legs : legCount (points_of s.args.numbers.now) ≡ pointCount s.args.numbers.now - 1
+  legs : leg_count (points_of s.args.numbers.now) ≡ point_count s.args.numbers.now - 1
   legs = ap (λ (n : ℕ). n - 1) (points-length s.args.numbers.now)
 
   -- a point of the route
-  bounded : (m : ℕ) {p : Point} → m < pointCount s.args.numbers.now → p ≡ pointAt (points_of s.args.numbers.now) m → BoundedPoint p
+  bounded : (m : ℕ) {p : Point} → m < point_count s.args.numbers.now → p ≡ point_at (points_of s.args.numbers.now) m → BoundedPoint p
   bounded m l e = rw e (point-bounded s.pre.0.within (s.pre.2.inside m l))
 
 first-hit-requires : tie.Need-first-hit-requires invariant-loop decreases-loop
@@ -61,7 +61,7 @@ found : (c : tie.After-first-hit invariant-loop decreases-loop) → let l = c.be
 found c =
     let a = (start c.before.before.before.before).args in
     c.first-hit.ensures
-    ∙ ap₂ (firstHit (isFilled a.map.now) a.g) c.before.before.point_at.ensures c.before.point-at2.ensures
+    ∙ ap₂ (first_hit (is_filled a.map.now) a.g) c.before.before.point_at.ensures c.before.point-at2.ensures
 
 returns : tie.Need-returns invariant-loop decreases-loop
 unfolding tested
@@ -83,8 +83,8 @@ unfolding tested
 returns-2 c =
     let l = c.before in
     let s = start l in
-    let all : l.loop.m ≡ legCount (points_of s.args.numbers.now) = omega (arith, legs s) in
-    ap gives (sym l.loop.invariant.1 ∙ ap (firstBlocked (find s)) all)
+    let all : l.loop.m ≡ leg_count (points_of s.args.numbers.now) = omega (arith, legs s) in
+    ap gives (sym l.loop.invariant.1 ∙ ap (first_blocked (find s)) all)
 
 pub test-legs-spec : {M : Type 1} → statement M
 test-legs-spec =

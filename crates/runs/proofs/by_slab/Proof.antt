@@ -10,7 +10,7 @@ use Rattle.integers.proofs.Omega.{zarith, neg! }
 use Rattle.integers.proofs.Bounds.{within-weaken}
 use Rattle.integers.proofs.Expr.{Expr, var, num, neg, ◌⊖◌, nth}
 use Rattle.integers.proofs.Machine.{asks, run, bound, learnt, asked}
-use Rattle.runs.specs.Run.{slopeMax, Stepping, Splits, FormHolds, FormFails, slabMax, reachMax}
+use Rattle.runs.specs.Run.{slope_max, Stepping, Splits, FormHolds, FormFails, slab_max, reach_max}
 use Rattle.runs.proofs.Narrow.{in-slab}
 use Rattle.runs.proofs.by_slab.Statement.{statement}
 use Rattle.runs.proofs.by_slab.Tie as tie
@@ -19,7 +19,7 @@ abbrev ρ : tie.Start → List ℤ
 ρ s = let a = s.args in a.step ∷ a.at ∷ a.reach ∷ []
 
 abbrev bs : List ℕ
-bs = slopeMax ∷ slabMax ∷ reachMax ∷ []
+bs = slope_max ∷ slab_max ∷ reach_max ∷ []
 
 ins : (s : tie.Start) → Withins bs (ρ s)
 ins s = let p = s.requires in (p.slope, (p.constant, (p.thick, tt)))

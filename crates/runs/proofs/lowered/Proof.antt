@@ -13,14 +13,14 @@ use Rattle.integers.proofs.Omega.{le-true, le-false}
 use Rattle.integers.proofs.Laws.{≤_trans}
 use Rattle.integers.proofs.Expr.{var, raw, ◌⊖◌}
 use Rattle.integers.proofs.Machine.{asks, run}
-use Rattle.runs.specs.Run.{formAt, FormFails, FormHolds}
-use Rattle.runs.proofs.Runs.{previous, take_step, step-nn, step-neg, falls, one_below, read, Given, nextMax, start-asks, start_is, next-in, found}
+use Rattle.runs.specs.Run.{form_at, FormFails, FormHolds}
+use Rattle.runs.proofs.Runs.{previous, take_step, step-nn, step-neg, falls, one_below, read, Given, next_max, start-asks, start_is, next-in, found}
 use Rattle.runs.proofs.lowered.Statement.{statement}
 use Rattle.runs.proofs.lowered.Tie as tie
 
 abbrev invariant-loop : tie.invariant-loop
 invariant-loop first end step at start k₀ x₀ k x =
-    (first ≤ k) × (k ≤ end) × (to_z w64 x ≡ formAt (to_z w64 step) (to_z w64 at) k) × ((l : ℕ) → k ≤ l → l < end → FormFails (to_z w64 step) (to_z w64 at) l)
+    (first ≤ k) × (k ≤ end) × (to_z w64 x ≡ form_at (to_z w64 step) (to_z w64 at) k) × ((l : ℕ) → k ≤ l → l < end → FormFails (to_z w64 step) (to_z w64 at) l)
 
 abbrev decreases-loop : tie.decreases-loop
 decreases-loop first end step at start k₀ x₀ k x = k - first
@@ -30,7 +30,7 @@ given s = record { form = s.requires.0; step_fits = s.ranges.step; at-fits = s.r
 
 module _ (s : tie.Start invariant-loop decreases-loop) where
   abbrev form : ℕ → ℤ
-  form = formAt (read s.args.step) (read s.args.at)
+  form = form_at (read s.args.step) (read s.args.at)
 
   downward : {k l : ℕ} → k ≤ l → form l ≤ℤ form k
   downward h = falls (read s.args.step) (read s.args.at) (rw (to_z-of_z s.fits.step) s.pre.1) h
@@ -42,7 +42,7 @@ module _ (s : tie.Start invariant-loop decreases-loop) where
 abbrev ρ : tie.Else1 invariant-loop decreases-loop → List ℤ
 ρ c = let l = c.before.before in to_z w64 l.loop.x ∷ l.before.before.args.step ∷ []
 
-ins : (c : tie.Else1 invariant-loop decreases-loop) → Withins nextMax (ρ c)
+ins : (c : tie.Else1 invariant-loop decreases-loop) → Withins next_max (ρ c)
 ins c =
     let l = c.before.before in
     let s = l.before.before in
@@ -75,7 +75,7 @@ loop-again c =
     let all : (l : ℕ) → k - 1 + 1 ≤ l → l < a.end → FormFails (read a.step) (read a.at) l = λ l h u. i.3 l (omega arith) u in (
       omega arith,
       omega arith,
-      run (ρ c) (raw 0 ⊖ var 1) nextMax tt (ins c)
+      run (ρ c) (raw 0 ⊖ var 1) next_max tt (ins c)
           ∙ (λ d. i.2 d -ℤ sym (to_z-of_z s.ranges.step) d) ∙ take_step (form s (k - 1)) (form s k) (read a.step) n,
       one_below (FormFails (read a.step) (read a.at)) (step-neg (form s (k - 1)) (form s k) (read a.step) n t) all,
     )
@@ -97,7 +97,7 @@ lowered-spec =
     (λ c. (start-asks (given c.before) c.from-index.ensures c.before.requires.0.most).2)
     loop-holds
     returns
-    (λ c. (asks (ρ c) (raw 0 ⊖ var 1) nextMax tt (ins c)).2)
+    (λ c. (asks (ρ c) (raw 0 ⊖ var 1) next_max tt (ins c)).2)
     (λ c. omega arith)
     (λ c. omega arith)
     loop-again

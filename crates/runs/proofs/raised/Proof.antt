@@ -13,14 +13,14 @@ use Rattle.integers.proofs.Omega.{le-true, le-false}
 use Rattle.integers.proofs.Laws.{≤_trans}
 use Rattle.integers.proofs.Expr.{var, raw, ◌⊕◌}
 use Rattle.integers.proofs.Machine.{asks, run}
-use Rattle.runs.specs.Run.{formAt, FormFails, FormHolds}
-use Rattle.runs.proofs.Runs.{next, rises, one-above, read, Given, nextMax, start-asks, start_is, next-in, found}
+use Rattle.runs.specs.Run.{form_at, FormFails, FormHolds}
+use Rattle.runs.proofs.Runs.{next, rises, one-above, read, Given, next_max, start-asks, start_is, next-in, found}
 use Rattle.runs.proofs.raised.Statement.{statement}
 use Rattle.runs.proofs.raised.Tie as tie
 
 abbrev invariant-loop : tie.invariant-loop
 invariant-loop first end step at start k₀ x₀ k x =
-    (first ≤ k) × (k ≤ end) × (to_z w64 x ≡ formAt (to_z w64 step) (to_z w64 at) k) × ((l : ℕ) → first ≤ l → l < k → FormFails (to_z w64 step) (to_z w64 at) l)
+    (first ≤ k) × (k ≤ end) × (to_z w64 x ≡ form_at (to_z w64 step) (to_z w64 at) k) × ((l : ℕ) → first ≤ l → l < k → FormFails (to_z w64 step) (to_z w64 at) l)
 
 abbrev decreases-loop : tie.decreases-loop
 decreases-loop first end step at start k₀ x₀ k x = end - k
@@ -31,14 +31,14 @@ given s = record { form = s.requires.0; step_fits = s.ranges.step; at-fits = s.r
 first-in : (s : tie.Start invariant-loop decreases-loop) → s.args.first ≤ 64
 first-in s = omega (arith, s.requires.0)
 
-upward : (s : tie.Start invariant-loop decreases-loop) {k l : ℕ} → k ≤ l → formAt (read s.args.step) (read s.args.at) k ≤ℤ formAt (read s.args.step) (read s.args.at) l
+upward : (s : tie.Start invariant-loop decreases-loop) {k l : ℕ} → k ≤ l → form_at (read s.args.step) (read s.args.at) k ≤ℤ form_at (read s.args.step) (read s.args.at) l
 upward s h = rises (read s.args.step) (read s.args.at) (rw (to_z-of_z s.ranges.step) s.requires.1) h
 
 -- the next value
 abbrev ρ : tie.Else1 invariant-loop decreases-loop → List ℤ
 ρ c = let l = c.before.before in to_z w64 l.loop.x ∷ l.before.before.args.step ∷ []
 
-ins : (c : tie.Else1 invariant-loop decreases-loop) → Withins nextMax (ρ c)
+ins : (c : tie.Else1 invariant-loop decreases-loop) → Withins next_max (ρ c)
 ins c =
     let l = c.before.before in
     let s = l.before.before in
@@ -64,7 +64,7 @@ loop-again c =
     let a = s.args in (
       omega arith,
       omega arith,
-      run (ρ c) (raw 0 ⊕ var 1) nextMax tt (ins c) ∙ (λ d. i.2 d +ℤ sym (to_z-of_z s.ranges.step) d) ∙ next (read a.step) (read a.at) l.loop.k,
+      run (ρ c) (raw 0 ⊕ var 1) next_max tt (ins c) ∙ (λ d. i.2 d +ℤ sym (to_z-of_z s.ranges.step) d) ∙ next (read a.step) (read a.at) l.loop.k,
       one-above (FormFails (read a.step) (read a.at)) (rw i.2 at (le-false (pos 0) (to_z w64 l.loop.x) c.if1.false)) i.3,
     )
 
@@ -85,7 +85,7 @@ raised-spec =
     (λ c. (start-asks (given c.before) c.from-index.ensures (first-in c.before)).2)
     loop-holds
     returns
-    (λ c. (asks (ρ c) (raw 0 ⊕ var 1) nextMax tt (ins c)).2)
+    (λ c. (asks (ρ c) (raw 0 ⊕ var 1) next_max tt (ins c)).2)
     (λ c. omega arith)
     (λ c. omega arith)
     loop-again

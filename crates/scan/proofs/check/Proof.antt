@@ -5,15 +5,15 @@ use mathlib.Core.List.{List, [], ◌∷◌, ◌++◌}
 use mathlib.Core.Path.{◌≡◌, refl, sym, ap, ap₂, ◌∙◌}
 use native.Mathlib.Omega.{arith}
 use lib.Dec.{leb}
-use Rattle.refusal.specs.Questions.{Question, ◌asks◌, answered, ofEach}
-use Rattle.refusal.specs.Inner.{Passing, saidVerdict, passed, asked}
+use Rattle.refusal.specs.Questions.{Question, ◌asks◌, answered, of_each}
+use Rattle.refusal.specs.Inner.{Passing, said_verdict, passed, asked}
 use Rattle.refusal.proofs.Asking.{and_then, first-append}
 use Rattle.layout.specs.declared.Layout.{Layout}
-use Rattle.layout.specs.Layout.{version1, recordStart}
+use Rattle.layout.specs.Layout.{version1, record_start}
 use Rattle.layout.proofs.Bounds.{version1-usable}
-use Rattle.ply.specs.Body.{vertexQuestion, faceQuestion}
+use Rattle.ply.specs.Body.{vertex_question, face_question}
 use Rattle.ply.proofs.Taken.{sized}
-use Rattle.scan.specs.Inner.{scanQuestions}
+use Rattle.scan.specs.Inner.{scan_questions}
 use Rattle.scan.proofs.check.Statement.{statement}
 use Rattle.scan.proofs.check.Tie as tie
 
@@ -24,24 +24,24 @@ in-turn a b c e h = ap (λ (u : Passing). and_then u (asked c)) (ap₂ and_then 
 -- the questions of the vertices, of the faces and of the room
 module _ (s : tie.Start) where
   abbrev vertices : List Question
-  vertices = ofEach (vertexQuestion s.args.s.now s.args.f) s.args.f.vertices
+  vertices = of_each (vertex_question s.args.s.now s.args.f) s.args.f.vertices
 
   abbrev faces : List Question
-  faces = ofEach (faceQuestion s.args.s.now s.args.f) s.args.f.faces
+  faces = of_each (face_question s.args.s.now s.args.f) s.args.f.faces
 
   abbrev room : List Question
-  room = (11 asks leb (recordStart version1 s.args.f.faces) s.args.room) ∷ []
+  room = (11 asks leb (record_start version1 s.args.f.faces) s.args.room) ∷ []
 
 returns-2 : tie.Need-returns-2
 returns-2 c =
     let v = c.before in
     let k = v.before.before in
     let s = k.before.before in
-    in-turn (vertices s) (faces s) (room s) (sym (ap saidVerdict v.vertex.given.1) ∙ k.check-vertices.ensures) refl
+    in-turn (vertices s) (faces s) (room s) (sym (ap said_verdict v.vertex.given.1) ∙ k.check-vertices.ensures) refl
 
 -- the vertices passed
 passed-1 : (c : tie.After-enum-told) → passed ≡ asked (vertices c.before.before.before.before)
-passed-1 c = let k = c.before.before in sym (ap saidVerdict c.enum_told.given.1) ∙ k.check-vertices.ensures
+passed-1 c = let k = c.before.before in sym (ap said_verdict c.enum_told.given.1) ∙ k.check-vertices.ensures
 
 returns-3 : tie.Need-returns-3
 returns-3 c =
@@ -49,7 +49,7 @@ returns-3 c =
     let k = v.before.before in
     let t = k.before in
     let s = t.before.before.before.before in
-    in-turn (vertices s) (faces s) (room s) (passed-1 t) (sym (ap saidVerdict v.face.given.1) ∙ k.check-faces.ensures)
+    in-turn (vertices s) (faces s) (room s) (passed-1 t) (sym (ap said_verdict v.face.given.1) ∙ k.check-faces.ensures)
 
 -- and the faces
 module _ (c : tie.After-record-start) where
@@ -59,21 +59,21 @@ module _ (c : tie.After-record-start) where
   abbrev start : tie.Start
   start = told.before.before.before.before.before.before.before
 
-  passed-2 : asked (room start) ≡ asked (scanQuestions start.args.s.now start.args.f start.args.room)
+  passed-2 : asked (room start) ≡ asked (scan_questions start.args.s.now start.args.f start.args.room)
   passed-2 =
       let k = told.before.before in
-      in-turn (vertices start) (faces start) (room start) (passed-1 k.before) (sym (ap saidVerdict told.enum-told2.given.1) ∙ k.check-faces.ensures)
+      in-turn (vertices start) (faces start) (room start) (passed-1 k.before) (sym (ap said_verdict told.enum-told2.given.1) ∙ k.check-faces.ensures)
 
-  size : c.record-start.result ≡ recordStart version1 start.args.f.faces
-  size = c.record-start.ensures ∙ ap (λ (l : Layout). recordStart l start.args.f.faces) c.before.version-1.ensures
+  size : c.record-start.result ≡ record_start version1 start.args.f.faces
+  size = c.record-start.ensures ∙ ap (λ (l : Layout). record_start l start.args.f.faces) c.before.version-1.ensures
 
 returns : tie.Need-returns
 unfolding answered
-returns c = rw (lt-leb (recordStart version1 (start c.before).args.f.faces) (start c.before).args.room (omega (arith, c.if1.true, size c.before))) refl ∙ passed-2 c.before
+returns c = rw (lt-leb (record_start version1 (start c.before).args.f.faces) (start c.before).args.room (omega (arith, c.if1.true, size c.before))) refl ∙ passed-2 c.before
 
 returns-4 : tie.Need-returns-4
 unfolding answered
-returns-4 c = rw (le-leb (recordStart version1 (start c.before).args.f.faces) (start c.before).args.room (omega (arith, c.if1.false, size c.before))) refl ∙ passed-2 c.before
+returns-4 c = rw (le-leb (record_start version1 (start c.before).args.f.faces) (start c.before).args.room (omega (arith, c.if1.false, size c.before))) refl ∙ passed-2 c.before
 
 record-start-requires : tie.Need-record-start-requires
 record-start-requires c κs =

@@ -8,17 +8,17 @@ use native.Mathlib.Omega.{arith}
 use lib.ListN.{length}
 use Rattle.frame_write.proofs.Pieces.{Filling, fill_none, fill-long, fill-room, fill_more, fill-all, length_part}
 use Rattle.ply_header.specs.declared.Form.{Form}
-use Rattle.scan.specs.Inner.{numbersOf, cornerNumbers}
+use Rattle.scan.specs.Inner.{numbers_of, corner_numbers}
 use Rattle.scan.proofs.put_corners.Statement.{statement}
 use Rattle.scan.proofs.put_corners.Tie as tie
 
 abbrev invariant-loop : tie.invariant-loop
-invariant-loop s f at numbers₀ j₀ numbers j = Filling (cornerNumbers s f at) 3 1 3 numbers₀ numbers j
+invariant-loop s f at numbers₀ j₀ numbers j = Filling (corner_numbers s f at) 3 1 3 numbers₀ numbers j
 
 abbrev decreases-loop : tie.decreases-loop
 decreases-loop s f at numbers₀ j₀ numbers j = 3 - j
 
-sized : (s : List ℕ) (f : Form) (at j : ℕ) → length (cornerNumbers s f at j) ≡ 3
+sized : (s : List ℕ) (f : Form) (at j : ℕ) → length (corner_numbers s f at j) ≡ 3
 sized s f at j = refl
 
 -- ---- a turn
@@ -43,8 +43,8 @@ module _ (c : tie.After-put-corner invariant-loop decreases-loop) where
   abbrev first : ℕ
   first = 1 + 3 * (turn read.before).loop.j
 
-  part : c.put-corner.new.0 ≡ cornerNumbers (start read.before).args.s.now (start read.before).args.f (start read.before).args.at (turn read.before).loop.j
-  part = c.put-corner.ensures ∙ ap numbersOf read.corner-at.ensures
+  part : c.put-corner.new.0 ≡ corner_numbers (start read.before).args.s.now (start read.before).args.f (start read.before).args.at (turn read.before).loop.j
+  part = c.put-corner.ensures ∙ ap numbers_of read.corner-at.ensures
 
 loop-again : tie.Need-loop-preserved invariant-loop decreases-loop
 loop-again c =

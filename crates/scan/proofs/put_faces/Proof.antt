@@ -7,25 +7,25 @@ use Prim.Native.Nat.{ℕ, ◌+◌, ◌-◌}
 use native.Mathlib.Omega.{arith}
 use lib.IntN.{ℤ}
 use lib.ListN.{length, take, drop}
-use Rattle.layout.specs.Layout.{version1, recordStart, recordFields}
-use Rattle.layout_write.specs.Writing.{canHoldAll, recordBytes}
+use Rattle.layout.specs.Layout.{version1, record_start, record_fields}
+use Rattle.layout_write.specs.Writing.{can_hold_all, record_bytes}
 use Rattle.frame_write.proofs.Pieces.{Filling, fill_none, fill-long, fill-room, fill_more, fill-all, length-record}
 use Rattle.ply_header.specs.declared.Form.{Form}
-use Rattle.ply.specs.Body.{facePlace, triangleAt}
-use Rattle.scan.specs.Inner.{faceBytes, Faced}
+use Rattle.ply.specs.Body.{face_place, triangle_at}
+use Rattle.scan.specs.Inner.{face_bytes, Faced}
 use Rattle.scan.proofs.Triangles.{triangle-fits}
 use Rattle.scan.proofs.Accepted.{few, passed-room, faced, inside, next-good}
 use Rattle.scan.proofs.put_faces.Statement.{statement}
 use Rattle.scan.proofs.put_faces.Tie as tie
 
 abbrev invariant-loop : tie.invariant-loop
-invariant-loop s f out₀ at₀ i₀ out at i = (at ≡ facePlace s f i) × Filling (faceBytes s f) 16 12 f.faces out₀ out i
+invariant-loop s f out₀ at₀ i₀ out at i = (at ≡ face_place s f i) × Filling (face_bytes s f) 16 12 f.faces out₀ out i
 
 abbrev decreases-loop : tie.decreases-loop
 decreases-loop s f out₀ at₀ i₀ out at i = f.faces - i
 
-sized : (s : List ℕ) (f : Form) (i : ℕ) → length (faceBytes s f i) ≡ 16
-sized s f i = length-record version1 (triangleAt s f (facePlace s f i))
+sized : (s : List ℕ) (f : Form) (i : ℕ) → length (face_bytes s f i) ≡ 16
+sized s f i = length-record version1 (triangle_at s f (face_place s f i))
 
 -- ---- a turn
 module _ (c : tie.Then1 invariant-loop decreases-loop) where
@@ -39,9 +39,9 @@ module _ (c : tie.Then1 invariant-loop decreases-loop) where
   reads = subst (Faced start.args.s.now start.args.f) (sym turn.loop.inv.0) (faced start.pre turn.loop.i c.if1.true)
 
   -- the numbers of its face
-  read : {ns : List ℤ} → ns ≡ triangleAt start.args.s.now start.args.f turn.loop.at
-      → ns ≡ triangleAt start.args.s.now start.args.f (facePlace start.args.s.now start.args.f turn.loop.i)
-  read e = e ∙ ap (triangleAt start.args.s.now start.args.f) turn.loop.inv.0
+  read : {ns : List ℤ} → ns ≡ triangle_at start.args.s.now start.args.f turn.loop.at
+      → ns ≡ triangle_at start.args.s.now start.args.f (face_place start.args.s.now start.args.f turn.loop.i)
+  read e = e ∙ ap (triangle_at start.args.s.now start.args.f) turn.loop.inv.0
 
 put-at-requires : tie.Need-put-at-requires invariant-loop decreases-loop
 put-at-requires c κs =
@@ -49,9 +49,9 @@ put-at-requires c κs =
     let t = r.before.before in
     let s = start t in
     let w = (turn t).loop in
-    let held = ((and-eq-true_iff (canHoldAll (recordFields version1) (triangleAt s.args.s.now s.args.f w.at)) _).0 (triangle-fits s.args.s.now s.args.f w.at)).0 in (
+    let held = ((and-eq-true_iff (can_hold_all (record_fields version1) (triangle_at s.args.s.now s.args.f w.at)) _).0 (triangle-fits s.args.s.now s.args.f w.at)).0 in (
       omega (arith, t.if1.true, few s.pre),
-      subst (λ (ns : List ℤ). canHoldAll (recordFields version1) ns ≡ true) (sym r.triangle.ensures) held,
+      subst (λ (ns : List ℤ). can_hold_all (record_fields version1) ns ≡ true) (sym r.triangle.ensures) held,
       fill-room (sized s.args.s.now s.args.f) (passed-room s.pre) w.inv.1 t.if1.true,
     )
 
@@ -62,7 +62,7 @@ loop-again c =
     let t = r.before.before in
     let s = start t in
     let w = (turn t).loop in
-    let put : List ℤ → List ℕ = λ ns. take (recordStart version1 w.i) w.out ++ (recordBytes version1 ns ++ drop 16 (drop (recordStart version1 w.i) w.out)) in (
+    let put : List ℤ → List ℕ = λ ns. take (record_start version1 w.i) w.out ++ (record_bytes version1 ns ++ drop 16 (drop (record_start version1 w.i) w.out)) in (
       ap (λ (p : ℕ). p + 13) w.inv.0 ∙ next-good s.pre w.i t.if1.true,
       fill_more (sized s.args.s.now s.args.f) (passed-room s.pre) w.inv.1 t.if1.true (p.put-at.ensures ∙ ap put (read t r.triangle.ensures)),
     )

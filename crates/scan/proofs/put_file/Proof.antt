@@ -7,12 +7,12 @@ use Prim.Native.Nat.{ℕ, ◌*◌, ◌<◌, ◌≤◌}
 use native.Mathlib.Omega.{arith}
 use lib.ListN.{length, take, drop}
 use Rattle.layout.specs.declared.Layout.{Layout}
-use Rattle.layout.specs.Layout.{version1, headerFields, recordStart}
+use Rattle.layout.specs.Layout.{version1, header_fields, record_start}
 use Rattle.layout.proofs.Bounds.{version1-usable}
-use Rattle.layout_write.specs.Writing.{canHoldAll, headerBytes}
-use Rattle.frame_write.specs.Write.{headerToWrite, concatBelow}
+use Rattle.layout_write.specs.Writing.{can_hold_all, header_bytes}
+use Rattle.frame_write.specs.Write.{header_to_write, concat_below}
 use Rattle.frame_write.proofs.Pieces.{behind-head, length-head, length-header}
-use Rattle.scan.specs.Inner.{faceBytes, Accepted}
+use Rattle.scan.specs.Inner.{face_bytes, Accepted}
 use Rattle.scan.proofs.Triangles.{grid-any}
 use Rattle.scan.proofs.Accepted.{few, passed-room}
 use Rattle.scan.proofs.put_file.Statement.{statement}
@@ -27,7 +27,7 @@ module _ (s : tie.Start) where
 
   -- the bytes of the header
   abbrev front : List ℕ
-  front = headerBytes version1 (headerToWrite s.args.grid faces)
+  front = header_bytes version1 (header_to_write s.args.grid faces)
 
   less : faces < 4096
   less = omega (arith, few s.pre.1)
@@ -35,8 +35,8 @@ module _ (s : tie.Start) where
   fits : 12 ≤ length out
   fits = omega (arith, passed-room s.pre.1)
 
-  held : canHoldAll (headerFields version1) (headerToWrite s.args.grid faces) ≡ true
-  held = ((and-eq-true_iff (canHoldAll (headerFields version1) (headerToWrite s.args.grid faces)) _).0 (grid-any s.args.grid faces less s.pre.0)).0
+  held : can_hold_all (header_fields version1) (header_to_write s.args.grid faces) ≡ true
+  held = ((and-eq-true_iff (can_hold_all (header_fields version1) (header_to_write s.args.grid faces)) _).0 (grid-any s.args.grid faces less s.pre.0)).0
 
 -- ---- the header is there
 abbrev start : tie.After-put-head → tie.Start
@@ -54,10 +54,10 @@ returns c =
     let d = put.before.before.before.before in
     let s = start d in
     let n = faces s in
-    let rest = concatBelow (faceBytes s.args.s.now s.args.f) n in (
-      c.record-start.ensures ∙ ap (λ (l : Layout). recordStart l n) c.before.version-1.ensures,
+    let rest = concat_below (face_bytes s.args.s.now s.args.f) n in (
+      c.record-start.ensures ∙ ap (λ (l : Layout). record_start l n) c.before.version-1.ensures,
       put.put-faces.ensures
-          ∙ ap (λ (o : List ℕ). take 12 o ++ (rest ++ drop (recordStart version1 n) o)) d.put-head.ensures
+          ∙ ap (λ (o : List ℕ). take 12 o ++ (rest ++ drop (record_start version1 n) o)) d.put-head.ensures
           ∙ behind-head (front s) rest (out s) 12 (16 * n) (length-header version1 _),
     )
 

@@ -4,12 +4,12 @@ use borrow.Author.Tests.{not-true, not-false}
 use mathlib.Core.Bool.{true}
 use mathlib.Core.Path.{◌≡◌, sym, ap, ◌∙◌}
 use Rattle.refusal.specs.Limit.{gives}
-use Rattle.refusal.specs.Inner.{saidVerdict}
+use Rattle.refusal.specs.Inner.{said_verdict}
 use Rattle.ply_header.specs.declared.Form.{Form}
 use Rattle.ply_header.specs.declared.Header.TheVariants.{Taken}
 use Rattle.ply.specs.Body.{taken}
 use Rattle.ply.proofs.Taken.{sized}
-use Rattle.scan.specs.Scan.{gridFits}
+use Rattle.scan.specs.Scan.{grid_fits}
 use Rattle.scan.proofs.Outcome.{no-grid, no-form, no, yes}
 use Rattle.scan.proofs.scan.Statement.{statement}
 use Rattle.scan.proofs.scan.Tie as tie
@@ -24,7 +24,7 @@ returns c =
 abbrev start : tie.After-read → tie.Start
 start c = c.before.before.before.before.before
 
-fits : (c : tie.After-read) → gridFits (start c).args.grid ≡ true
+fits : (c : tie.After-read) → grid_fits (start c).args.grid ≡ true
 fits c = let e = c.before in sym e.before.grid-fits.ensures ∙ not-false e.before.grid-fits.result e.if1.false
 
 returns-2 : tie.Need-returns-2
@@ -47,7 +47,7 @@ returns-3 c =
     let f = k.before.before in
     let r = f.before.before in
     let a = (start r).args in
-    no a.grid a.ply.now a.out.now (fits r) (form_of f) (formed f) (sized _ _ (formed f)).faces (sym k.check.ensures ∙ ap saidVerdict l.limit.given.1)
+    no a.grid a.ply.now a.out.now (fits r) (form_of f) (formed f) (sized _ _ (formed f)).faces (sym k.check.ensures ∙ ap said_verdict l.limit.given.1)
 
 returns-4 : tie.Need-returns-4
 returns-4 c =
@@ -57,7 +57,7 @@ returns-4 c =
     let f = k.before.before in
     let r = f.before.before in
     let a = (start r).args in
-    let given = yes a.grid a.ply.now a.out.now (fits r) (form_of f) (formed f) (sized _ _ (formed f)).faces (sym k.check.ensures ∙ ap saidVerdict t.enum-told2.given.1) in
+    let given = yes a.grid a.ply.now a.out.now (fits r) (form_of f) (formed f) (sized _ _ (formed f)).faces (sym k.check.ensures ∙ ap said_verdict t.enum-told2.given.1) in
     (ap gives p.put-file.ensures.0 ∙ given.0, p.put-file.ensures.1 ∙ given.1)
 
 put-file-requires : tie.Need-put-file-requires
@@ -65,7 +65,7 @@ put-file-requires c κs =
     let t = c.before in
     let k = t.before.before in
     let f = k.before.before in
-    (fits f.before.before, record { form = formed f; yes = sym k.check.ensures ∙ ap saidVerdict t.enum-told2.given.1 })
+    (fits f.before.before, record { form = formed f; yes = sym k.check.ensures ∙ ap said_verdict t.enum-told2.given.1 })
 
 pub scan-spec : {M : Type 1} → statement M
 scan-spec =

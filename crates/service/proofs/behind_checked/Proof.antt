@@ -14,13 +14,13 @@ use Rattle.geometry.specs.Geometry.{cube}
 use Rattle.geometry.specs.Bounds.{BoundedPoint}
 use Rattle.refusal.specs.Limit.{gives}
 use Rattle.grid.specs.declared.Lattice.{Lattice}
-use Rattle.grid.specs.Grid.{cellCount, boxOfCell, latticeOf}
+use Rattle.grid.specs.Grid.{cell_count, box_of_cell, lattice_of}
 use Rattle.grid.specs.Usable.{UsableLattice}
 use Rattle.grid.proofs.Usable.{usable-boxes}
 use Rattle.layout.specs.declared.Header.{Header}
 use Rattle.frame.proofs.Accepted.{AcceptedFile, accepted, header_is, usable}
-use Rattle.service.specs.Bar.{lowest, saidBar, ShownAt}
-use Rattle.service.specs.Inner.{overlapsRecord}
+use Rattle.service.specs.Bar.{lowest, said_bar, ShownAt}
+use Rattle.service.specs.Inner.{overlaps_record}
 use Rattle.service.proofs.Sizes.{corner-bounded}
 use Rattle.service.proofs.Answers.{behind-outside, behind-found}
 use Rattle.service.proofs.behind_checked.Statement.{statement}
@@ -45,17 +45,17 @@ module _ (c : tie.After-corner-of) where
   abbrev s : tie.Start
   s = start here.before
 
-  inside : s.args.cell < cellCount s.args.header.grid
+  inside : s.args.cell < cell_count s.args.header.grid
   inside = omega (arith, here.before.cell-count.ensures.0, here.if1.left)
 
   abbrev l : Lattice
-  l = latticeOf s.args.header.grid
+  l = lattice_of s.args.header.grid
 
   boxes : UsableLattice l
   boxes = usable-boxes (usable (file-is s))
 
-  corner-is : c.corner-of.result ≡ boxOfCell s.args.header.grid l s.args.cell
-  corner-is = c.corner-of.ensures ∙ ap (λ (x : Lattice). boxOfCell s.args.header.grid x s.args.cell) c.before.lattice-of.ensures
+  corner-is : c.corner-of.result ≡ box_of_cell s.args.header.grid l s.args.cell
+  corner-is = c.corner-of.ensures ∙ ap (λ (x : Lattice). box_of_cell s.args.header.grid x s.args.cell) c.before.lattice-of.ensures
 
   extent-is : to_z w64 (of_z w64 c.before.lattice-of.result.extent) ≡ l.extent
   extent-is =
@@ -76,8 +76,8 @@ returns-2 c =
     let n = (s k).args.cell in
     let r = c.find.result in
     let is = header_is file h (s k).requires in
-    let found = subst₂ (λ (p : Point) (d : ℤ). (saidBar r ≡ gives (lowest (overlapsRecord file p (cube d)) h.count)) × ShownAt file h.count p (cube d) r) (corner-is k) (extent-is k) c.find.ensures in
-    let whole = subst (λ (x : Header). let g = x.grid in let b = latticeOf g in (saidBar r ≡ gives (lowest (overlapsRecord file (boxOfCell g b n) (cube b.extent)) x.count)) × ShownAt file x.count (boxOfCell g b n) (cube b.extent) r) (sym is) found in
+    let found = subst₂ (λ (p : Point) (d : ℤ). (said_bar r ≡ gives (lowest (overlaps_record file p (cube d)) h.count)) × ShownAt file h.count p (cube d) r) (corner-is k) (extent-is k) c.find.ensures in
+    let whole = subst (λ (x : Header). let g = x.grid in let b = lattice_of g in (said_bar r ≡ gives (lowest (overlaps_record file (box_of_cell g b n) (cube b.extent)) x.count)) × ShownAt file x.count (box_of_cell g b n) (cube b.extent) r) (sym is) found in
     (whole.0 ∙ sym (behind-found file n h (s k).requires (inside k)), whole.1)
 
 pub behind-checked-spec : {M : Type 1} → statement M

@@ -11,7 +11,7 @@ use mir.Facts.{to_z-of_z}
 use Rattle.integers.specs.Within.{Within}
 use Rattle.integers.proofs.Bounds.{within-fits}
 use Rattle.integers.proofs.Machine.{back}
-use Rattle.geometry.specs.Bounds.{coordinateMax, stepMax}
+use Rattle.geometry.specs.Bounds.{coordinate_max, step_max}
 use Rattle.grid.proofs.Numbers.{x_lt, y-lt, z-lt}
 use Rattle.service.proofs.corner_of.Statement.{statement}
 use Rattle.service.proofs.corner_of.Tie as tie
@@ -21,10 +21,10 @@ module _ (s : tie.Start) where
   step_is : to_z w64 (of_z w64 s.args.l.step) ≡ s.args.l.step
   step_is = to_z-of_z {w = w64} (within-fits (lit< tt) s.requires.1.step)
 
-  asked : {o : ℤ} {i n : ℕ} → Within coordinateMax o → i < n → n ≤ 64 → Within coordinateMax (to_z w64 (of_z w64 o)) × (i ≤ 64) × Within stepMax (to_z w64 (of_z w64 s.args.l.step))
+  asked : {o : ℤ} {i n : ℕ} → Within coordinate_max o → i < n → n ≤ 64 → Within coordinate_max (to_z w64 (of_z w64 o)) × (i ≤ 64) × Within step_max (to_z w64 (of_z w64 s.args.l.step))
   asked {o} h l m = (rw (to_z-of_z {w = w64} {z = o} (within-fits (lit< tt) h)) h, omega arith, rw step_is s.pre.1.step)
 
-  along-is : {o r : ℤ} (i : ℕ) → Within coordinateMax o → r ≡ to_z w64 (of_z w64 o) +ℤ pos i *ℤ to_z w64 (of_z w64 s.args.l.step) → r ≡ o +ℤ pos i *ℤ s.args.l.step
+  along-is : {o r : ℤ} (i : ℕ) → Within coordinate_max o → r ≡ to_z w64 (of_z w64 o) +ℤ pos i *ℤ to_z w64 (of_z w64 s.args.l.step) → r ≡ o +ℤ pos i *ℤ s.args.l.step
   along-is {o} i h e = e ∙ (λ k. to_z-of_z {w = w64} {z = o} (within-fits (lit< tt) h) k +ℤ pos i *ℤ step_is k)
 
 -- the places, from the last to the first

@@ -19,24 +19,24 @@ use Rattle.refusal.specs.Limit.{gives}
 use Rattle.reach.specs.Reaches.{ReachesBox}
 use Rattle.weights.specs.Weights.{Weighs}
 use Rattle.layout.specs.declared.Record.{Record}
-use Rattle.frame.specs.File.{recordOf}
+use Rattle.frame.specs.File.{record_of}
 use Rattle.frame.proofs.Triangles.{triangle-bounded, triangle-within}
 use Rattle.service.specs.Bar.{NoneReaches}
-use Rattle.service.specs.Inner.{overlapsRecord}
+use Rattle.service.specs.Inner.{overlaps_record}
 use Rattle.service.proofs.Lowest.{lowest-clear, lowest-at, overlap-reaches, apart-not}
 use Rattle.service.proofs.find.Statement.{statement}
 use Rattle.service.proofs.find.Tie as tie
 
 -- ---- none of the first n records overlaps the box
 abbrev None : List ℕ → (p d : Point) → ℕ → Type 0
-None s p d n = (i : ℕ) → i < n → overlapsRecord s p d i ≡ false
+None s p d n = (i : ℕ) → i < n → overlaps_record s p d i ≡ false
 
-none_more : (s : List ℕ) (p d : Point) (n : ℕ) → None s p d n → overlapsRecord s p d n ≡ false → None s p d (n + 1)
+none_more : (s : List ℕ) (p d : Point) (n : ℕ) → None s p d n → overlaps_record s p d n ≡ false → None s p d (n + 1)
 none_more s p d n h e i l = go (dec_lt i n)
   where
-    go : Dec (i < n) → overlapsRecord s p d i ≡ false
+    go : Dec (i < n) → overlaps_record s p d i ≡ false
     go (yes m) = h i m
-    go (no m) = let same : n ≡ i = omega arith in subst (λ (j : ℕ). overlapsRecord s p d j ≡ false) same e
+    go (no m) = let same : n ≡ i = omega arith in subst (λ (j : ℕ). overlaps_record s p d j ≡ false) same e
 
 none-reaches : (s : List ℕ) (p : Point) {d : ℤ} (n : ℕ) → pos 0 ≤ℤ d → None s p (cube d) n → NoneReaches s n p (cube d)
 none-reaches s p n thick h i l = apart-not thick (h i l)
@@ -75,10 +75,10 @@ module _ (r : tie.After-one-record invariant-loop decreases-loop) where
   abbrev i : ℕ
   i = loop.loop.i
 
-  yes-overlaps : overlapsRecord file s.args.p (cube (d s)) i ≡ true
+  yes-overlaps : overlaps_record file s.args.p (cube (d s)) i ≡ true
   yes-overlaps = sym r.before.before.overlaps.ensures ∙ r.before.if1.taken
 
-  triangle-is : r.one-record.result.triangle ≡ (recordOf file i).triangle
+  triangle-is : r.one-record.result.triangle ≡ (record_of file i).triangle
   triangle-is = ap (λ (x : Record). x.triangle) r.one-record.ensures
 
 weigh-requires : tie.Need-weigh-requires invariant-loop decreases-loop

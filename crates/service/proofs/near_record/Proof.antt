@@ -10,7 +10,7 @@ use Rattle.geometry.specs.declared.Triangle.{Triangle}
 use Rattle.geometry.specs.Geometry.{cube}
 use Rattle.geometry.specs.Bounds.{BoundedTriangle}
 use Rattle.layout.specs.declared.Record.{Record}
-use Rattle.frame.specs.File.{recordOf}
+use Rattle.frame.specs.File.{record_of}
 use Rattle.frame.proofs.Triangles.{triangle-bounded}
 use Rattle.service.specs.declared.Near.{Near}
 use Rattle.service.specs.Inner.{ByBox}
@@ -22,15 +22,15 @@ module _ (s : tie.Start) where
   extent-is = to_z-of_z s.ranges.extent
 
   -- a record that was read is the file's
-  module _ {r : Record} (is : r ≡ recordOf s.args.file.now s.args.i) where
-    triangle-is : r.triangle ≡ (recordOf s.args.file.now s.args.i).triangle
+  module _ {r : Record} (is : r ≡ record_of s.args.file.now s.args.i) where
+    triangle-is : r.triangle ≡ (record_of s.args.file.now s.args.i).triangle
     triangle-is = ap (λ (x : Record). x.triangle) is
 
     bounded : BoundedTriangle r.triangle
     bounded = subst BoundedTriangle (sym triangle-is) (triangle-bounded s.args.file.now s.args.i)
 
     told : (n : Near) → ByBox r.triangle s.args.p (cube (to_z w64 (of_z w64 s.args.extent))) n
-        → ByBox (recordOf s.args.file.now s.args.i).triangle s.args.p (cube s.args.extent) n
+        → ByBox (record_of s.args.file.now s.args.i).triangle s.args.p (cube s.args.extent) n
     told n h = subst₂ (λ (t : Triangle) (d : ℤ). ByBox t s.args.p (cube d) n) triangle-is extent-is h
 
 pub near-record-spec : {M : Type 1} → statement M

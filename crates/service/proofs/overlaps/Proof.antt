@@ -9,13 +9,13 @@ use mir.Facts.{to_z-of_z}
 use Rattle.geometry.specs.declared.Triangle.{Triangle}
 use Rattle.geometry.specs.Geometry.{cube}
 use Rattle.geometry.specs.Bounds.{BoundedTriangle}
-use Rattle.column_rule.specs.Column.{formsHold}
+use Rattle.column_rule.specs.Column.{forms_hold}
 use Rattle.column_rule.proofs.Law.{rule-parts}
-use Rattle.box_test.specs.Inner.{boxesHold}
-use Rattle.frame.specs.File.{recordOf}
+use Rattle.box_test.specs.Inner.{boxes_hold}
+use Rattle.frame.specs.File.{record_of}
 use Rattle.frame.proofs.Triangles.{triangle-bounded}
 use Rattle.service.specs.declared.Near.{Near}
-use Rattle.service.specs.Inner.{overlapsRecord, ByBox}
+use Rattle.service.specs.Inner.{overlaps_record, ByBox}
 use Rattle.service.proofs.overlaps.Statement.{statement}
 use Rattle.service.proofs.overlaps.Tie as tie
 
@@ -27,20 +27,20 @@ module _ (k : tie.After-near-record) where
   extent-is = to_z-of_z s.fits.extent
 
   abbrev t : Triangle
-  t = (recordOf s.args.file.now s.args.i).triangle
+  t = (record_of s.args.file.now s.args.i).triangle
 
   abbrev boxes : Bool
-  boxes = boxesHold t s.args.p (cube s.args.extent)
+  boxes = boxes_hold t s.args.p (cube s.args.extent)
 
   abbrev forms : Bool
-  forms = formsHold t s.args.p (cube s.args.extent)
+  forms = forms_hold t s.args.p (cube s.args.extent)
 
   -- what is said of the triangle by its box, in the case n
   said : {n : Near} → k.near-record.result ≡ n → ByBox t s.args.p (cube s.args.extent) n
   said {n} e = subst (ByBox t s.args.p (cube s.args.extent)) e (subst (λ (d : ℤ). ByBox t s.args.p (cube d) k.near-record.result) extent-is k.near-record.ensures)
 
   -- the rule is both parts
-  both : {b : Bool} → boxes ≡ b → (b && forms) ≡ overlapsRecord s.args.file.now s.args.p (cube s.args.extent) s.args.i
+  both : {b : Bool} → boxes ≡ b → (b && forms) ≡ overlaps_record s.args.file.now s.args.p (cube s.args.extent) s.args.i
   both e = (λ i. sym e i && forms) ∙ sym (rule-parts t s.args.p (cube s.args.extent))
 
 returns : tie.Need-returns
@@ -54,7 +54,7 @@ returns-2 : tie.Need-returns-2
 returns-2 c =
     let a = c.before.before in
     let k = a.before.before in
-    c.beyond-boxes.ensures ∙ (λ i. formsHold ((handed a).0 i) (s k).args.p (cube (extent-is k i))) ∙ both k (handed a).1
+    c.beyond-boxes.ensures ∙ (λ i. forms_hold ((handed a).0 i) (s k).args.p (cube (extent-is k i))) ∙ both k (handed a).1
 
 pub overlaps-spec : {M : Type 1} → statement M
 overlaps-spec =

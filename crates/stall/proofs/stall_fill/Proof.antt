@@ -1,8 +1,8 @@
 -- `stall::stall_fill` meets its contract, case by case of the fill's answer. Assumes nothing.
 use borrow.Author.Rules.{rules}
 use mathlib.Core.Path.{sym, ap, ◌∙◌}
-use Rattle.fill.specs.Fill.{saidFilling}
-use Rattle.pack.specs.Pack.{packedCount}
+use Rattle.fill.specs.Fill.{said_filling}
+use Rattle.pack.specs.Pack.{packed_count}
 use Rattle.pack.proofs.Unpack.{counted}
 use Rattle.stall.proofs.Fitting.{filling-fits}
 use Rattle.stall.proofs.stall_fill.Statement.{statement}
@@ -16,7 +16,7 @@ returns c =
     let arm = c.before.before in
     let k = called arm.before.before in
     let a = k.before.before.before.before.args in
-    let e = c.pack.ensures ∙ ap packedCount (sym (ap saidFilling arm.n.given.1) ∙ k.fill.ensures.0) in
+    let e = c.pack.ensures ∙ ap packed_count (sym (ap said_filling arm.n.given.1) ∙ k.fill.ensures.0) in
     (e, counted (filling-fits a.file.now a.map.now) e, k.fill.ensures.1)
 
 returns-2 : tie.Need-returns-2
@@ -24,7 +24,7 @@ returns-2 c =
     let arm = c.before.before in
     let k = called arm.before.before in
     let a = k.before.before.before.before.args in
-    let e = c.pack-limit.ensures ∙ ap packedCount (sym (ap saidFilling arm.limit.given.1) ∙ k.fill.ensures.0) in
+    let e = c.pack-limit.ensures ∙ ap packed_count (sym (ap said_filling arm.limit.given.1) ∙ k.fill.ensures.0) in
     (e, counted (filling-fits a.file.now a.map.now) e, k.fill.ensures.1)
 
 pub stall-fill-spec : {M : Type 1} → statement M

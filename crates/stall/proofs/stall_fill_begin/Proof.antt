@@ -1,7 +1,7 @@
 -- `stall::stall_fill_begin` meets its contract. Assumes nothing.
 use borrow.Author.Rules.{rules}
 use mathlib.Core.Path.{ap, ◌∙◌}
-use Rattle.pack.specs.Pack.{packedCount}
+use Rattle.pack.specs.Pack.{packed_count}
 use Rattle.pack.proofs.Unpack.{counted}
 use Rattle.stall.proofs.Fitting.{beginning-fits}
 use Rattle.stall.proofs.stall_fill_begin.Statement.{statement}
@@ -11,7 +11,7 @@ returns : tie.Need-returns
 returns c =
     let k = c.before.before.before in
     let a = k.before.before.before.before.args in
-    let e = c.pack-step.ensures ∙ ap packedCount k.begin.ensures.0 in
+    let e = c.pack-step.ensures ∙ ap packed_count k.begin.ensures.0 in
     (e, counted (beginning-fits a.file.now a.map.now) e, k.begin.ensures.1)
 
 pub stall-fill-begin-spec : {M : Type 1} → statement M

@@ -8,9 +8,9 @@ use lib.IntN.{ℤ}
 use lib.ListN.{length}
 use Rattle.frame.specs.declared.Reading.{Reading}
 use Rattle.refusal.specs.Limit.{Answer}
-use Rattle.frame.specs.Questions.{Contents, reading, saidReading}
-use Rattle.numbers.specs.Numbers.{readNumbers, written}
-use Rattle.stall.specs.Calls.{roomed, packedReading, unpackedReading}
+use Rattle.frame.specs.Questions.{Contents, reading, said_reading}
+use Rattle.numbers.specs.Numbers.{read_numbers, written}
+use Rattle.stall.specs.Calls.{roomed, packed_reading, unpacked_reading}
 use Rattle.stall.proofs.Answers.{taken}
 use Rattle.numbers.proofs.Readings.{SmallReading, small-reading}
 use Rattle.stall.proofs.stall_read.Statement.{statement}
@@ -20,13 +20,13 @@ write-both-requires : tie.Need-write-both-requires
 write-both-requires c κs =
     let arm = c.before.before in
     let s = arm.before.before.before.before in
-    subst SmallReading (sym arm.before.before.read.ensures ∙ ap saidReading arm.header.given.1) (small-reading s.args.file.now s.args.i)
+    subst SmallReading (sym arm.before.before.read.ensures ∙ ap said_reading arm.header.given.1) (small-reading s.args.file.now s.args.i)
 
 write-header-requires : tie.Need-write-header-requires
 write-header-requires c κs =
     let arm = c.before.before in
     let s = arm.before.before.before.before in
-    subst SmallReading (sym arm.before.before.read.ensures ∙ ap saidReading arm.header2.given.1) (small-reading s.args.file.now s.args.i)
+    subst SmallReading (sym arm.before.before.read.ensures ∙ ap said_reading arm.header2.given.1) (small-reading s.args.file.now s.args.i)
 
 -- an arm's answer and its numbers, packed
 module _ (k : tie.After-read) where
@@ -36,12 +36,12 @@ module _ (k : tie.After-read) where
   abbrev old : List ℤ
   old = k.before.before.args.out.now
 
-  packs : {q : Reading} {r : ℕ} {new : List ℤ} → (r ≡ packedReading (roomed (saidReading q) (length old))) × (new ≡ written (readNumbers (saidReading q)) old)
+  packs : {q : Reading} {r : ℕ} {new : List ℤ} → (r ≡ packed_reading (roomed (said_reading q) (length old))) × (new ≡ written (read_numbers (said_reading q)) old)
       → k.read.result ≡ q
-      → (r ≡ packedReading (roomed said (length old))) × (unpackedReading r new ≡ roomed said (length old)) × (new ≡ written (readNumbers said) old)
+      → (r ≡ packed_reading (roomed said (length old))) × (unpacked_reading r new ≡ roomed said (length old)) × (new ≡ written (read_numbers said) old)
   packs p q =
       let a = k.before.before.args in
-      let both = rw (sym (ap saidReading q) ∙ k.read.ensures) at p in
+      let both = rw (sym (ap said_reading q) ∙ k.read.ensures) at p in
       (both.0, taken a.file.now a.i old both, both.1)
 
 returns : tie.Need-returns

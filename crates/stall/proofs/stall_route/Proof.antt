@@ -4,10 +4,10 @@ use mathlib.Core.Path.{◌≡◌, sym, ap, ◌∙◌}
 use Prim.Native.Nat.{ℕ}
 use Rattle.refusal.specs.Limit.{Answer}
 use Rattle.route.specs.declared.RouteAnswer.{RouteAnswer}
-use Rattle.demand.specs.Route.{Finding, routeAnswer}
-use Rattle.route.specs.Said.{saidRoute}
+use Rattle.demand.specs.Route.{Finding, route_answer}
+use Rattle.route.specs.Said.{said_route}
 use Rattle.demand.specs.Demand.{DemandOf, FirstOf}
-use Rattle.stall.specs.Calls.{packedRoute, unpackedRoute}
+use Rattle.stall.specs.Calls.{packed_route, unpacked_route}
 use Rattle.stall.proofs.Answers.{tested}
 use Rattle.stall.proofs.stall_route.Statement.{statement}
 use Rattle.stall.proofs.stall_route.Tie as tie
@@ -15,14 +15,14 @@ use Rattle.stall.proofs.stall_route.Tie as tie
 -- an arm's answer, packed
 module _ (k : tie.After-test-route) where
   abbrev said : Answer Finding
-  said = let a = k.before.before.before.args in routeAnswer a.file.now a.map.now a.numbers.now
+  said = let a = k.before.before.before.args in route_answer a.file.now a.map.now a.numbers.now
 
-  packs : {q : RouteAnswer} {r : ℕ} → r ≡ packedRoute (saidRoute q) → k.test-route.result ≡ q → let a = k.before.before.before.args in
-      (r ≡ packedRoute said) × (unpackedRoute r ≡ said) × DemandOf a.file.now a.map.now a.numbers.now (unpackedRoute r)
-      × FirstOf a.file.now a.map.now a.numbers.now (unpackedRoute r)
+  packs : {q : RouteAnswer} {r : ℕ} → r ≡ packed_route (said_route q) → k.test-route.result ≡ q → let a = k.before.before.before.args in
+      (r ≡ packed_route said) × (unpacked_route r ≡ said) × DemandOf a.file.now a.map.now a.numbers.now (unpacked_route r)
+      × FirstOf a.file.now a.map.now a.numbers.now (unpacked_route r)
   packs p q =
       let a = k.before.before.before.args in
-      tested a.file.now a.map.now a.numbers.now (p ∙ ap packedRoute (sym (ap saidRoute q) ∙ k.test-route.ensures.0))
+      tested a.file.now a.map.now a.numbers.now (p ∙ ap packed_route (sym (ap said_route q) ∙ k.test-route.ensures.0))
 
 pub stall-route-spec : {M : Type 1} → statement M
 stall-route-spec =

@@ -8,7 +8,7 @@ use Prim.Native.Nat.{◌-◌}
 use native.Mathlib.Omega.{arith}
 use lib.IntN.{ℤ}
 use lib.ListN.{length, drop}
-use Rattle.numbers.specs.Numbers.{headerNumbers, recordNumbers}
+use Rattle.numbers.specs.Numbers.{header_numbers, record_numbers}
 use Rattle.stall.proofs.Behind.{put-behind}
 use Rattle.stall.proofs.write_both.Statement.{statement}
 use Rattle.stall.proofs.write_both.Tie as tie
@@ -37,7 +37,7 @@ returns-2 c =
           ∙ ap (λ (l : List ℤ). put l (second-list made-record.record-numbers.result l)) first.copy.ensures
           ∙ ap₂ (λ (h r : List ℤ). put (h ++ drop (length h) o) (second-list r (h ++ drop (length h) o)))
           made.header-numbers.ensures made-record.record-numbers.ensures
-          ∙ put-behind (headerNumbers start.args.header) (recordNumbers start.args.rec) o 9 refl,
+          ∙ put-behind (header_numbers start.args.header) (record_numbers start.args.rec) o 9 refl,
     )
 
 pub write-both-spec : {M : Type 1} → statement M

@@ -1,8 +1,8 @@
 -- `steps::admit` meets its contract: the check, then question 8. Assumes nothing.
 use borrow.Author.Rules.{rules}
 use mathlib.Core.Path.{sym, ap, ◌∙◌}
-use Rattle.map.specs.Map.{mapLength}
-use Rattle.frame.specs.Questions.{saidCheck}
+use Rattle.map.specs.Map.{map_length}
+use Rattle.frame.specs.Questions.{said_check}
 use Rattle.frame.proofs.Accepted.{accepted}
 use Rattle.steps.proofs.Admitted.{admit-refused, admit-short, admit-passed}
 use Rattle.steps.proofs.admit.Statement.{statement}
@@ -14,8 +14,8 @@ returns c =
     let k = c.before.before in
     let h = k.before.before in
     let a = h.before.before.before.before.args in
-    sym (admit-short a.file.now a.room _ (sym h.before.before.check.ensures ∙ ap saidCheck h.header.given.1)
-    (rw (c.before.map-length.ensures ∙ ap mapLength k.cell-count.ensures.0) at c.if1.true))
+    sym (admit-short a.file.now a.room _ (sym h.before.before.check.ensures ∙ ap said_check h.header.given.1)
+    (rw (c.before.map-length.ensures ∙ ap map_length k.cell-count.ensures.0) at c.if1.true))
 
 -- refused by the check
 returns-2 : tie.Need-returns-2
@@ -23,7 +23,7 @@ returns-2 c =
     let l = c.before in
     let k = l.before.before in
     let a = k.before.before.args in
-    sym (admit-refused a.file.now a.room (sym k.check.ensures ∙ ap saidCheck l.limit.given.1))
+    sym (admit-refused a.file.now a.room (sym k.check.ensures ∙ ap said_check l.limit.given.1))
 
 -- passed
 returns-3 : tie.Need-returns-3
@@ -31,13 +31,13 @@ returns-3 c =
     let k = c.before.before in
     let h = k.before.before in
     let a = h.before.before.before.before.args in
-    sym (admit-passed a.file.now a.room _ (sym h.before.before.check.ensures ∙ ap saidCheck h.header.given.1)
-    (rw (c.before.map-length.ensures ∙ ap mapLength k.cell-count.ensures.0) at c.if1.false))
+    sym (admit-passed a.file.now a.room _ (sym h.before.before.check.ensures ∙ ap said_check h.header.given.1)
+    (rw (c.before.map-length.ensures ∙ ap map_length k.cell-count.ensures.0) at c.if1.false))
 
 cell-count-requires : tie.Need-cell-count-requires
 cell-count-requires c κs =
     let h = c.before in
-    let g = (accepted _ _ (sym h.before.before.check.ensures ∙ ap saidCheck h.header.given.1)).grid.within in
+    let g = (accepted _ _ (sym h.before.before.check.ensures ∙ ap said_check h.header.given.1)).grid.within in
     (g.x.most, g.y.most, g.z.most)
 
 pub admit-spec : {M : Type 1} → statement M

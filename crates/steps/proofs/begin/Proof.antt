@@ -4,8 +4,8 @@ use mathlib.Core.List.{◌++◌}
 use mathlib.Core.Path.{sym, ap, ◌∙◌}
 use Prim.Native.Nat.{ℕ}
 use lib.ListN.{length, drop, replicate}
-use Rattle.map.specs.Map.{mapLength}
-use Rattle.frame.specs.Questions.{saidCheck}
+use Rattle.map.specs.Map.{map_length}
+use Rattle.frame.specs.Questions.{said_check}
 use Rattle.frame.proofs.Accepted.{accepted}
 use Rattle.steps.proofs.Admitted.{admitted, begun, begin-refused}
 use Rattle.steps.proofs.begin.Statement.{statement}
@@ -15,7 +15,7 @@ cell-count-requires : tie.Need-cell-count-requires
 cell-count-requires c κs =
     let h = c.before.before in
     let a = h.before.before.before.before.before.args in
-    let g = (accepted _ _ (admitted a.file.now (length a.map.now) _ (sym h.before.before.admit.ensures ∙ ap saidCheck h.header.given.1)).0).grid.within in
+    let g = (accepted _ _ (admitted a.file.now (length a.map.now) _ (sym h.before.before.admit.ensures ∙ ap said_check h.header.given.1)).0).grid.within in
     (g.x.most, g.y.most, g.z.most)
 
 clear-requires : tie.Need-clear-requires
@@ -23,15 +23,15 @@ clear-requires c κs =
     let k = c.before in
     let h = k.before.before.before in
     let a = h.before.before.before.before.before.args in
-    rw (c.map-length.ensures ∙ ap mapLength k.cell-count.ensures.0)
-    (admitted a.file.now (length a.map.now) _ (sym h.before.before.admit.ensures ∙ ap saidCheck h.header.given.1)).1
+    rw (c.map-length.ensures ∙ ap map_length k.cell-count.ensures.0)
+    (admitted a.file.now (length a.map.now) _ (sym h.before.before.admit.ensures ∙ ap said_check h.header.given.1)).1
 
 returns : tie.Need-returns
 returns c =
     let l = c.before in
     let k = l.before.before in
     let a = k.before.before.before.args in
-    let (said, left) = begin-refused a.file.now a.map.now (sym k.admit.ensures ∙ ap saidCheck l.limit.given.1) in
+    let (said, left) = begin-refused a.file.now a.map.now (sym k.admit.ensures ∙ ap said_check l.limit.given.1) in
     (sym said, sym left)
 
 returns-2 : tie.Need-returns-2
@@ -41,8 +41,8 @@ returns-2 c =
     let k = m.before in
     let h = k.before.before.before in
     let a = h.before.before.before.before.before.args in
-    let (said, left) = begun a.file.now a.map.now _ (sym h.before.before.admit.ensures ∙ ap saidCheck h.header.given.1) in
-    (sym said, e.clear.ensures ∙ ap (λ (n : ℕ). replicate n 0 ++ drop n a.map.now) (m.map-length.ensures ∙ ap mapLength k.cell-count.ensures.0) ∙ sym left)
+    let (said, left) = begun a.file.now a.map.now _ (sym h.before.before.admit.ensures ∙ ap said_check h.header.given.1) in
+    (sym said, e.clear.ensures ∙ ap (λ (n : ℕ). replicate n 0 ++ drop n a.map.now) (m.map-length.ensures ∙ ap map_length k.cell-count.ensures.0) ∙ sym left)
 
 pub begin-spec : {M : Type 1} → statement M
 begin-spec =

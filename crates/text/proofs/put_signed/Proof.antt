@@ -13,7 +13,7 @@ use mir.Val.{to_z, of_z}
 use mir.Facts.{to_z-of_z}
 use Rattle.integers.proofs.Bounds.{within-weaken}
 use Rattle.integers.proofs.Omega.{zarith}
-use Rattle.text.specs.Text.{decimal, signedDecimal}
+use Rattle.text.specs.Text.{decimal, signed_decimal}
 use Rattle.text.proofs.Decimals.{decimal-length}
 use Rattle.text.proofs.Texts.{puts-more}
 use Rattle.text.proofs.put_signed.Statement.{statement}
@@ -35,11 +35,11 @@ size c = ap nat_abs (c.to-index.ensures ∙ passed c.before)
 most : (c : tie.After-to-index) → length (decimal c.to-index.result) ≤ 10
 most c = decimal-length 9 c.to-index.result (rw (size c) (omega (arith, (start c).requires.0.within)))
 
-of_negative : (z : ℤ) → z <ℤ pos 0 → signedDecimal z ≡ (45 ∷ []) ++ decimal (nat_abs z)
+of_negative : (z : ℤ) → z <ℤ pos 0 → signed_decimal z ≡ (45 ∷ []) ++ decimal (nat_abs z)
 of_negative (pos n) h = absurd (omega zarith)
 of_negative (negsuc n) h = refl
 
-of_positive : (z : ℤ) → pos 0 ≤ℤ z → signedDecimal z ≡ decimal (nat_abs z)
+of_positive : (z : ℤ) → pos 0 ≤ℤ z → signed_decimal z ≡ decimal (nat_abs z)
 of_positive (pos n) h = refl
 of_positive (negsuc n) h = absurd (omega zarith)
 

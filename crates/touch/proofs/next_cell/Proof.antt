@@ -2,7 +2,7 @@
 use mathlib.Core.Path.{◌≡◌, ap, ◌∙◌}
 use Prim.Native.Nat.{◌+◌, ◌-◌}
 use native.Mathlib.Omega.{arith}
-use Rattle.map.specs.Map.{isFilled}
+use Rattle.map.specs.Map.{is_filled}
 use Rattle.touch.proofs.next_cell.Statement.{statement}
 use Rattle.touch.proofs.next_cell.Tie as tie
 
@@ -16,7 +16,7 @@ returns c =
       from = omega (arith, h.from);
       to = omega (arith, h.to);
       skipped = λ i u v. h.skipped (a.row + i) (omega (arith, u)) (omega (arith, v));
-      stopped = λ u. ap (isFilled a.map.now) there ∙ h.stopped (omega (arith, u, h.from));
+      stopped = λ u. ap (is_filled a.map.now) there ∙ h.stopped (omega (arith, u, h.from));
     }
 
 pub next-cell-spec : {M : Type 1} → statement M

@@ -11,10 +11,10 @@ use Rattle.integers.proofs.Truth.{apart}
 use Rattle.grid.specs.declared.Grid.{Grid}
 use Rattle.grid.specs.declared.BoxRange.{BoxRange}
 use Rattle.legs.specs.declared.Slabs.{Slabs}
-use Rattle.legs.specs.Slab.{rowHolds}
-use Rattle.grid.specs.Grid.{cellCount}
-use Rattle.grid.specs.Cells.{cellNumber}
-use Rattle.map.specs.Map.{isFilled}
+use Rattle.legs.specs.Slab.{row_holds}
+use Rattle.grid.specs.Grid.{cell_count}
+use Rattle.grid.specs.Cells.{cell_number}
+use Rattle.map.specs.Map.{is_filled}
 use Rattle.grid.proofs.Numbers.{number_lt}
 use Rattle.touch.specs.declared.Found.TheVariants.{Cell, Nothing}
 use Rattle.touch.specs.Inner.{wanted, Lowest}
@@ -24,7 +24,7 @@ use Rattle.touch.proofs.search.Tie as tie
 
 abbrev invariant-cells : tie.invariant-cells
 invariant-cells map slabs x y z nx ny found₀ near k rows j row i₀ found i =
-    (found ≡ Nothing) × (x.first ≤ i) × (i < x.end → isFilled map (row + i) ≡ true) × Cells map nx ny slabs x y z k j i
+    (found ≡ Nothing) × (x.first ≤ i) × (i < x.end → is_filled map (row + i) ≡ true) × Cells map nx ny slabs x y z k j i
 
 abbrev decreases-cells : tie.decreases-cells
 decreases-cells map slabs x y z nx ny found₀ near k rows j row i₀ found i = x.end - i
@@ -89,11 +89,11 @@ k-at : (m : In-rows) → (scan-of m).scan.k < (block (start (scan-of m))).z.end
 k-at m = m.before.before.if1.true
 
 row_at : (m : In-rows) → m.rows.j < m.before.rows2.result.end → let o = scan-of m in let s = start o in
-    In (block s).y m.rows.j × (rowHolds (slabs s) o.scan.k m.rows.j ≡ true)
+    In (block s).y m.rows.j × (row_holds (slabs s) o.scan.k m.rows.j ≡ true)
 row_at m l = row_in m.before.rows2.ensures m.rows.j (m.rows.invariant.1, l)
 
 j-at : (l : In-cells) → let m = rows_of l in let o = scan-of m in let s = start o in
-    In (block s).y m.rows.j × (rowHolds (slabs s) o.scan.k m.rows.j ≡ true)
+    In (block s).y m.rows.j × (row_holds (slabs s) o.scan.k m.rows.j ≡ true)
 j-at l = row_at (rows_of l) l.before.before.before.if2.true
 
 -- ---- the loop over layers
@@ -159,7 +159,7 @@ cell-number-requires c κs =
 
 -- the number of a cell of the row, and that the row lies in the grid
 cell-is : (c : Row) (i : ℕ) → let m = rows_at c in let g = grid (start (scan-of m)) in
-    c.cell-number.result + i ≡ cellNumber g.nx g.ny i m.rows.j (scan-of m).scan.k
+    c.cell-number.result + i ≡ cell_number g.nx g.ny i m.rows.j (scan-of m).scan.k
 cell-is c i = omega (arith, c.cell-number.ensures)
 
 row_fits : (c : Row) → let g = grid (start (scan-of (rows_at c))) in c.cell-number.result + g.nx ≤ g.nx * g.ny * g.nz
@@ -185,11 +185,11 @@ in_row c =
 
 -- a cell that is not filled is not looked for
 not-filled : (c : Row) (i : ℕ) → let m = rows_at c in let s = start (scan-of m) in let b = block s in
-    isFilled s.args.map.now (c.cell-number.result + i) ≡ false
+    is_filled s.args.map.now (c.cell-number.result + i) ≡ false
     → No s.args.map.now (grid s).nx (grid s).ny (slabs s) b.x b.y b.z i m.rows.j (scan-of m).scan.k
 not-filled c i clear _ _ _ filled _ _ =
     let s = start (scan-of (rows_at c)) in
-    apart (ap (isFilled s.args.map.now) (cell-is c i) ∙ filled) clear
+    apart (ap (is_filled s.args.map.now) (cell-is c i) ∙ filled) clear
 
 cells-holds : tie.Need-cells-init invariant-cells decreases-cells invariant-rows decreases-rows invariant-scan decreases-scan
 cells-holds c =
@@ -228,13 +228,13 @@ cells-again c =
 
 -- ---- the answers
 abbrev test : Start → ℕ → Bool
-test s = wanted (isFilled s.args.map.now) (grid s) (slabs s) (block s)
+test s = wanted (is_filled s.args.map.now) (grid s) (slabs s) (block s)
 
 returns : tie.Need-returns invariant-cells decreases-cells invariant-rows decreases-rows invariant-scan decreases-scan
 returns c =
     let o = c.before.before in
     let s = start o in
-    subst (Lowest (test s) (cellCount (grid s))) (sym o.scan.invariant.0)
+    subst (Lowest (test s) (cell_count (grid s))) (sym o.scan.invariant.0)
     (found_none s.args.map.now (grid s) (slabs s) (block s) s.pre.3 o.scan.k (omega arith) o.scan.invariant.2)
 
 returns-2 : tie.Need-returns-2 invariant-cells decreases-cells invariant-rows decreases-rows invariant-scan decreases-scan
@@ -246,10 +246,10 @@ returns-2 c =
     let o = scan-of m in
     let s = start o in
     let i-at = e.before.if3.true in
-    subst (λ (n : ℕ). Lowest (test s) (cellCount (grid s)) (Cell n)) (sym (cell-is r l.cells.i))
+    subst (λ (n : ℕ). Lowest (test s) (cell_count (grid s)) (Cell n)) (sym (cell-is r l.cells.i))
     (found_at s.args.map.now (grid s) (slabs s) (block s) s.pre.3 l.cells.i m.rows.j o.scan.k
     (l.cells.invariant.1, i-at) (j-at l).0 (o.scan.inv.1, k-at m)
-    (ap (isFilled s.args.map.now) (sym (cell-is r l.cells.i)) ∙ l.cells.invariant.2 i-at)
+    (ap (is_filled s.args.map.now) (sym (cell-is r l.cells.i)) ∙ l.cells.invariant.2 i-at)
     (j-at l).1
     (sym e.touches.ensures ∙ c.if4.true)
     o.scan.inv.2 m.rows.inv.2 l.cells.invariant.3)

@@ -7,9 +7,9 @@ use native.Mathlib.Omega.{arith}
 use lib.ListN.{length}
 use Rattle.grid.specs.declared.CellRange.{CellRange}
 use Rattle.columns.specs.declared.Strides.{Strides}
-use Rattle.columns.specs.Draw.{cells_of, Numbers, Draws, oneColumn, inRun, RunReady}
+use Rattle.columns.specs.Draw.{cells_of, Numbers, Draws, one_column, in_run, RunReady}
 use Rattle.blocks.specs.Block.{SomeCells}
-use Rattle.placed.specs.Numbering.{stridesOf, turnStrides}
+use Rattle.placed.specs.Numbering.{strides_of, turn_strides}
 use Rattle.triangles.proofs.Views.{turn-numbers, cells-turned}
 use Rattle.triangles.proofs.Ways.{view, row-x, row-y, row-z}
 use Rattle.triangles.proofs.fill_box.Statement.{statement}
@@ -24,7 +24,7 @@ run-ready {g} {h} {bytes} {u} {v} {w} e n room a b c =
 -- the numbering, and with the axes taken in turn
 module _ (s : tie.Start) where
   abbrev g : Strides
-  g = stridesOf s.args.g
+  g = strides_of s.args.g
 
   abbrev room : cells_of g ≤ 8 * length s.args.map.now
   room = s.pre.0.grid.room
@@ -32,25 +32,25 @@ module _ (s : tie.Start) where
   numbers : Numbers g
   numbers = (view s.args.g s.args.l s.pre.0.grid s.pre.2).numbers
 
-  room-x : cells_of (turnStrides g) ≤ 8 * length s.args.map.now
+  room-x : cells_of (turn_strides g) ≤ 8 * length s.args.map.now
   room-x = subst (λ n. n ≤ 8 * length s.args.map.now) (sym (cells-turned g.nu g.nv g.nw)) room
 
-  room-y : cells_of (turnStrides (turnStrides g)) ≤ 8 * length s.args.map.now
+  room-y : cells_of (turn_strides (turn_strides g)) ≤ 8 * length s.args.map.now
   room-y = subst (λ n. n ≤ 8 * length s.args.map.now) (sym (cells-turned g.nv g.nw g.nu)) room-x
 
 abbrev start : tie.After-strides → tie.Start
 start c = c.before.before.before.before.before
 
-abbrev turn-x : (c : tie.After-turn-strides) → let r = c.before.before.before.before.before in c.turn-strides.result ≡ turnStrides (stridesOf (start r).args.g)
-turn-x c = let r = c.before.before.before.before.before in c.turn-strides.ensures ∙ ap turnStrides r.strides.ensures
+abbrev turn-x : (c : tie.After-turn-strides) → let r = c.before.before.before.before.before in c.turn-strides.result ≡ turn_strides (strides_of (start r).args.g)
+turn-x c = let r = c.before.before.before.before.before in c.turn-strides.ensures ∙ ap turn_strides r.strides.ensures
 
-abbrev turn-y : (c : tie.After-turn-strides3) → let r = c.before.before.before.before.before.before.before in c.turn-strides3.result ≡ turnStrides (turnStrides (stridesOf (start r).args.g))
+abbrev turn-y : (c : tie.After-turn-strides3) → let r = c.before.before.before.before.before.before.before in c.turn-strides3.result ≡ turn_strides (turn_strides (strides_of (start r).args.g))
 turn-y c =
     let r = c.before.before.before.before.before.before.before in
-    c.turn-strides3.ensures ∙ ap turnStrides (c.before.turn-strides2.ensures ∙ ap turnStrides r.strides.ensures)
+    c.turn-strides3.ensures ∙ ap turn_strides (c.before.turn-strides2.ensures ∙ ap turn_strides r.strides.ensures)
 
-drawn : {g h : Strides} (i j : ℕ) (w : CellRange) {old new : List ℕ} → h ≡ g → Draws h (oneColumn i j) (inRun w) old new → Draws g (oneColumn i j) (inRun w) old new
-drawn i j w {old} {new} e d = subst (λ h. Draws h (oneColumn i j) (inRun w) old new) e d
+drawn : {g h : Strides} (i j : ℕ) (w : CellRange) {old new : List ℕ} → h ≡ g → Draws h (one_column i j) (in_run w) old new → Draws g (one_column i j) (in_run w) old new
+drawn i j w {old} {new} e d = subst (λ h. Draws h (one_column i j) (in_run w) old new) e d
 
 returns : tie.Need-returns
 returns c =

@@ -13,10 +13,10 @@ use Rattle.integers.specs.Within.{Withins}
 use Rattle.integers.proofs.Bounds.{within-fits}
 use Rattle.integers.proofs.Expr.{var}
 use Rattle.integers.proofs.Machine.{bounded}
-use Rattle.geometry.specs.Bounds.{normalMax, each, PointWithin}
+use Rattle.geometry.specs.Bounds.{normal_max, each, PointWithin}
 use Rattle.forms.proofs.Sizes.{normal-within}
 use Rattle.placed.specs.declared.Placed.{Placed}
-use Rattle.placed.specs.Placed.{placedIn, turnPlaced}
+use Rattle.placed.specs.Placed.{placed_in, turn_placed}
 use Rattle.triangles.specs.Add.{AddsTriangle}
 use Rattle.triangles.specs.View.{PlacedReady, PlacedAdds}
 use Rattle.triangles.proofs.Ways.{placed-ready, placed-adds, ready_turned, adds-turned}
@@ -43,7 +43,7 @@ module _ (c : tie.After-place) where
   bytes = length start.args.map.now
 
   abbrev whole : Placed
-  whole = let a = start.args in placedIn a.g a.l a.b a.t
+  whole = let a = start.args in placed_in a.g a.l a.b a.t
 
   ready : PlacedReady whole start.args.l.step start.args.l.extent bytes
   ready = let p = start.pre in placed-ready start.args.g start.args.l p.0.grid p.2 p.0 p.1
@@ -62,32 +62,32 @@ module _ (c : tie.After-place) where
   abbrev ρ : List ℤ
   ρ = let n = c.place.result.n in n.x ∷ n.y ∷ n.z ∷ []
 
-  ins : Withins (each normalMax 3 []) ρ
-  ins = let h : PointWithin normalMax c.place.result.n = rw c.place.ensures (normal-within ready.within) in (h.x, (h.y, (h.z, tt)))
+  ins : Withins (each normal_max 3 []) ρ
+  ins = let h : PointWithin normal_max c.place.result.n = rw c.place.ensures (normal-within ready.within) in (h.x, (h.y, (h.z, tt)))
 
 abbrev placed : tie.After-magnitude3 → tie.After-place
 placed c = c.before.before.before.before.before.before.before
 
 -- the triangle after one turn, and after two
-once : (c : tie.After-turned) → let p = placed c.before.before.before.before in c.turned.result ≡ turnPlaced (whole p)
-once c = let p = placed c.before.before.before.before in c.turned.ensures ∙ ap turnPlaced p.place.ensures
+once : (c : tie.After-turned) → let p = placed c.before.before.before.before in c.turned.result ≡ turn_placed (whole p)
+once c = let p = placed c.before.before.before.before in c.turned.ensures ∙ ap turn_placed p.place.ensures
 
-twice : (c : tie.After-turned3) → let p = placed c.before.before.before.before.before in c.turned3.result ≡ turnPlaced (turnPlaced (whole p))
-twice c = let p = placed c.before.before.before.before.before in c.turned3.ensures ∙ ap turnPlaced (c.before.turned2.ensures ∙ ap turnPlaced p.place.ensures)
+twice : (c : tie.After-turned3) → let p = placed c.before.before.before.before.before in c.turned3.result ≡ turn_placed (turn_placed (whole p))
+twice c = let p = placed c.before.before.before.before.before in c.turned3.ensures ∙ ap turn_placed (c.before.turned2.ensures ∙ ap turn_placed p.place.ensures)
 
 returns : tie.Need-returns
 returns c =
     let f = c.before.before in
     let t = f.before.before.before in
     let p = placed t.before.before.before.before in
-    adds p (adds-turned (whole p) (given p t.turned.result (turnPlaced (whole p)) (once t) f.fill-placed.ensures))
+    adds p (adds-turned (whole p) (given p t.turned.result (turn_placed (whole p)) (once t) f.fill-placed.ensures))
 
 returns-2 : tie.Need-returns-2
 returns-2 c =
     let f = c.before.before in
     let t = f.before.before.before in
     let p = placed t.before.before.before.before.before in
-    adds p (adds-turned (whole p) (adds-turned (turnPlaced (whole p)) (given p t.turned3.result (turnPlaced (turnPlaced (whole p))) (twice t) f.fill-placed2.ensures)))
+    adds p (adds-turned (whole p) (adds-turned (turn_placed (whole p)) (given p t.turned3.result (turn_placed (turn_placed (whole p))) (twice t) f.fill-placed2.ensures)))
 
 returns-3 : tie.Need-returns-3
 returns-3 c =
@@ -100,11 +100,11 @@ fill-columns-spec =
     tie.close
     (tie.spec
     (λ c κs. let p = c.before.requires in (p.0.grid.x.most, p.0.grid.y.most, p.0.grid.boxes, p.1))
-    (λ c κs. let p = c.before.before in (bounded (ρ p) (var 0 ∷ []) (each normalMax 3 []) (2 ^ 62 ∷ []) tt (ins p)).0)
-    (λ c κs. let p = c.before.before.before.before in (bounded (ρ p) (var 1 ∷ []) (each normalMax 3 []) (2 ^ 62 ∷ []) tt (ins p)).0)
-    (λ c κs. let p = c.before.before.before.before.before.before in (bounded (ρ p) (var 2 ∷ []) (each normalMax 3 []) (2 ^ 62 ∷ []) tt (ins p)).0)
+    (λ c κs. let p = c.before.before in (bounded (ρ p) (var 0 ∷ []) (each normal_max 3 []) (2 ^ 62 ∷ []) tt (ins p)).0)
+    (λ c κs. let p = c.before.before.before.before in (bounded (ρ p) (var 1 ∷ []) (each normal_max 3 []) (2 ^ 62 ∷ []) tt (ins p)).0)
+    (λ c κs. let p = c.before.before.before.before.before.before in (bounded (ρ p) (var 2 ∷ []) (each normal_max 3 []) (2 ^ 62 ∷ []) tt (ins p)).0)
     (λ c κs. tt)
-    (λ c κs. let t = c.before.before in let p = placed t.before.before.before.before in asked p (turnPlaced (whole p)) (once t) (ready_turned (ready p)))
+    (λ c κs. let t = c.before.before in let p = placed t.before.before.before.before in asked p (turn_placed (whole p)) (once t) (ready_turned (ready p)))
     (λ c. search rules)
     returns
     (λ c κs. tt)
@@ -112,7 +112,7 @@ fill-columns-spec =
     (λ c κs.
     let t = c.before.before in
     let p = placed t.before.before.before.before.before in
-    asked p (turnPlaced (turnPlaced (whole p))) (twice t) (ready_turned (ready_turned (ready p))))
+    asked p (turn_placed (turn_placed (whole p))) (twice t) (ready_turned (ready_turned (ready p))))
     (λ c. search rules)
     returns-2
     (λ c κs. let p = placed c.before.before.before.before in asked p (whole p) p.place.ensures (ready p))

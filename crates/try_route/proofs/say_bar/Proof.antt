@@ -1,7 +1,7 @@
 -- `try_route::say_bar` meets its contract: the weights are those that the search gave. Assumes nothing.
 use borrow.Author.Rules.{rules}
 use mathlib.Core.Path.{sym, ap, ◌∙◌, subst}
-use Rattle.service.specs.Bar.{saidBar, Shown}
+use Rattle.service.specs.Bar.{said_bar, Shown}
 use Rattle.try_route.proofs.say_bar.Statement.{statement}
 use Rattle.try_route.proofs.say_bar.Tie as tie
 
@@ -10,7 +10,7 @@ put-behind-requires c κs =
     let i = c.before.before in
     let b = i.before.before in
     let a = b.before.before.before.args in
-    (sym b.behind.ensures.0 ∙ ap saidBar i.i.given.1, subst (Shown a.file.now a.cell) i.i.given.1 b.behind.ensures.1, search rules)
+    (sym b.behind.ensures.0 ∙ ap said_bar i.i.given.1, subst (Shown a.file.now a.cell) i.i.given.1 b.behind.ensures.1, search rules)
 
 pub say-bar-spec : {M : Type 1} → statement M
 say-bar-spec =

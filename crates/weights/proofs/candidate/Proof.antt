@@ -7,7 +7,7 @@ use lib.IntN.{ℤ}
 use Rattle.integers.specs.Within.{Withins}
 use Rattle.integers.proofs.Expr.{Expr}
 use Rattle.integers.proofs.Machine.{Asks, asks, run, small}
-use Rattle.geometry.specs.Bounds.{differenceMax, each}
+use Rattle.geometry.specs.Bounds.{difference_max, each}
 use Rattle.reach.proofs.Vectors.{Vector, crossᴱ, vec, ◌at◌}
 use Rattle.candidates.specs.Candidates.{row}
 use Rattle.weights.proofs.candidate.Statement.{statement}
@@ -18,7 +18,7 @@ abbrev ρ : tie.Start → List ℤ
 ρ c = let a = c.args in row a.t1 (a.m % 9) at row a.t1 (a.m / 9) at []
 
 abbrev bs : List ℕ
-bs = each differenceMax 6 []
+bs = each difference_max 6 []
 
 ins : (c : tie.Start) → Withins bs (ρ c)
 ins c =

@@ -15,7 +15,7 @@ use Rattle.integers.proofs.Omega.{lt-true, lt-false}
 use Rattle.integers.proofs.Expr.{num}
 use Rattle.integers.proofs.Machine.{back, asks, tested}
 use Rattle.geometry.specs.Geometry.{dot}
-use Rattle.geometry.specs.Bounds.{normalMax, each}
+use Rattle.geometry.specs.Bounds.{normal_max, each}
 use Rattle.reach.proofs.Vectors.{totalᴱ, vec, ◌at◌}
 use Rattle.candidates.specs.Candidates.{row}
 use Rattle.weights.proofs.fits.Statement.{statement}
@@ -36,7 +36,7 @@ negative : (c : tie.After-value invariant-loop decreases-loop) {t : Bool} → lt
 negative c e = ap (λ (z : ℤ). lt_z z (pos 0)) (sym (back w64 c.value.type-inv ∙ c.value.ensures)) ∙ e
 
 abbrev bs : List ℕ
-bs = each normalMax 3 []
+bs = each normal_max 3 []
 
 ins : (s : S) → Withins bs (s.args.w at [])
 ins s = let w = s.pre.1 in (w.x, (w.y, (w.z, tt)))

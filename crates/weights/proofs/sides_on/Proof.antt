@@ -5,7 +5,7 @@ use lib.Dec.{T}
 use lib.IntN.{ℤ}
 use Rattle.integers.proofs.Expr.{Expr, var, ◌⊖◌, eval}
 use Rattle.integers.proofs.Machine.{Asks, mach, asks, run, small}
-use Rattle.weights.specs.Inner.{sideBounds}
+use Rattle.weights.specs.Inner.{side_bounds}
 use Rattle.weights.proofs.sides_on.Statement.{statement}
 use Rattle.weights.proofs.sides_on.Tie as tie
 
@@ -21,11 +21,11 @@ y = var 1 ⊖ var 3
 abbrev z : Expr
 z = var 2 ⊖ var 3
 
-needed : (e : Expr) → T (small e sideBounds) → (c : tie.Start) → Asks (ρ c) e
-needed e t c = asks (ρ c) e sideBounds t c.requires
+needed : (e : Expr) → T (small e side_bounds) → (c : tie.Start) → Asks (ρ c) e
+needed e t c = asks (ρ c) e side_bounds t c.requires
 
-is : (e : Expr) → T (small e sideBounds) → (c : tie.Start) → mach (ρ c) e ≡ eval (ρ c) e
-is e t c = run (ρ c) e sideBounds t c.requires
+is : (e : Expr) → T (small e side_bounds) → (c : tie.Start) → mach (ρ c) e ≡ eval (ρ c) e
+is e t c = run (ρ c) e side_bounds t c.requires
 
 returns : tie.Need-returns
 returns c = λ i. record {

@@ -5,7 +5,7 @@ use lib.IntN.{ℤ}
 use Rattle.integers.specs.Within.{Withins}
 use Rattle.integers.proofs.Expr.{Expr}
 use Rattle.integers.proofs.Machine.{Asks, asks, run}
-use Rattle.geometry.specs.Bounds.{differenceMax, normalMax, each}
+use Rattle.geometry.specs.Bounds.{difference_max, normal_max, each}
 use Rattle.reach.proofs.Vectors.{dotᴱ, vec, ◌at◌}
 use Rattle.weights.proofs.value.Statement.{statement}
 use Rattle.weights.proofs.value.Tie as tie
@@ -14,7 +14,7 @@ abbrev ρ : tie.Start → List ℤ
 ρ c = c.args.r at c.args.w at []
 
 abbrev bs : List ℕ
-bs = each differenceMax 3 (each normalMax 3 [])
+bs = each difference_max 3 (each normal_max 3 [])
 
 ins : (c : tie.Start) → Withins bs (ρ c)
 ins c = let r = c.requires.0 in let w = c.requires.1 in (r.x, (r.y, (r.z, (w.x, (w.y, (w.z, tt))))))

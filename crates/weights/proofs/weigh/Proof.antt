@@ -10,7 +10,7 @@ use lib.IntN.{ℤ}
 use Rattle.integers.proofs.Expr.{var, nth}
 use Rattle.integers.proofs.Machine.{mach, bounded, run, small}
 use Rattle.geometry.specs.declared.Point.{Point}
-use Rattle.geometry.specs.Bounds.{extentMax, normalMax, each, PointWithin}
+use Rattle.geometry.specs.Bounds.{extent_max, normal_max, each, PointWithin}
 use Rattle.geometry.specs.Geometry.{cube}
 use Rattle.reach.proofs.Vectors.{◌at◌}
 use Rattle.candidates.specs.Candidates.{rows, candidate, Fits}
@@ -32,7 +32,7 @@ module _ (c : tie.After-rows invariant-loop decreases-loop) where
   s = c.before
 
   rows_are : c.rows.result ≡ rows s.args.t s.args.p (cube s.args.extent)
-  rows_are = c.rows.ensures ∙ ap (λ (e : ℤ). rows s.args.t s.args.p (cube e)) (run (s.args.extent ∷ []) (var 0) (extentMax ∷ []) tt (s.pre.2, tt))
+  rows_are = c.rows.ensures ∙ ap (λ (e : ℤ). rows s.args.t s.args.p (cube e)) (run (s.args.extent ∷ []) (var 0) (extent_max ∷ []) tt (s.pre.2, tt))
 
   rows-small : BoundedRows c.rows.result
   rows-small = rw rows_are (rows-bounded s.pre.0 s.pre.1 s.pre.2)
@@ -41,9 +41,9 @@ below : (c : tie.At-loop invariant-loop decreases-loop) → c.loop.m < 81
 below c = omega (arith, c.loop.invariant.from, c.loop.invariant.below)
 
 abbrev bs : List ℕ
-bs = each normalMax 3 []
+bs = each normal_max 3 []
 
-candidate-small : (c : tie.At-loop invariant-loop decreases-loop) {w : Point} → w ≡ candidate c.before.rows.result c.loop.m → PointWithin normalMax w
+candidate-small : (c : tie.At-loop invariant-loop decreases-loop) {w : Point} → w ≡ candidate c.before.rows.result c.loop.m → PointWithin normal_max w
 candidate-small c e = rw e (candidate-bounded c.before.rows.result (rows-small c.before) c.loop.m)
 
 loop-again : tie.Need-loop-preserved invariant-loop decreases-loop
@@ -72,7 +72,7 @@ weigh-spec =
     (tie.spec
     invariant-loop
     decreases-loop
-    (λ c κs. let p = c.requires in (p.0, p.1, (bounded (c.args.extent ∷ []) (var 0 ∷ []) (extentMax ∷ []) (extentMax ∷ []) tt (p.2, tt)).0))
+    (λ c κs. let p = c.requires in (p.0, p.1, (bounded (c.args.extent ∷ []) (var 0 ∷ []) (extent_max ∷ []) (extent_max ∷ []) tt (p.2, tt)).0))
     (λ c. rw (rows_are c) (reaches_some c.before.requires.3))
     (λ c κs. (rows-small c.before, below c))
     (λ c κs. (rows-small c.before.before, candidate-small c.before c.candidate.ensures))

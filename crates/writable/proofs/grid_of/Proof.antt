@@ -10,20 +10,20 @@ use mir.Syntax.{w64}
 use mir.Val.{to_z, of_z}
 use Rattle.integers.proofs.Machine.{back}
 use Rattle.integers.proofs.Omega.{zarith, -! }
-use Rattle.layout.specs.Layout.{headerFields, field, plain, less_one}
+use Rattle.layout.specs.Layout.{header_fields, field, plain, less_one}
 use Rattle.layout_write.proofs.Held.{held-length, held_at, less-one-held}
 use Rattle.writable.proofs.grid_of.Statement.{statement}
 use Rattle.writable.proofs.grid_of.Tie as tie
 
 -- the header has ten numbers, and those of cells are not negative
 there : (s : tie.Start) (k : ℕ) → k < 10 → k < length s.args.numbers.now
-there s k h = omega (arith, held-length (headerFields s.args.layout) s.args.numbers.now s.requires.1)
+there s k h = omega (arith, held-length (header_fields s.args.layout) s.args.numbers.now s.requires.1)
 
-cells : (s : tie.Start) (k : ℕ) → k < 10 → get_or (headerFields s.args.layout) k (field plain 0) ≡ field less_one 6 → pos 0 ≤ℤ get_or s.args.numbers.now k (pos 0)
+cells : (s : tie.Start) (k : ℕ) → k < 10 → get_or (header_fields s.args.layout) k (field plain 0) ≡ field less_one 6 → pos 0 ≤ℤ get_or s.args.numbers.now k (pos 0)
 cells s k h e =
     let z = get_or s.args.numbers.now k (pos 0) in
     let l = s.args.layout in
-    omega (zarith, (less-one-held 6 z (rw e at (held_at (headerFields l) s.args.numbers.now s.requires.1 k h))).some, -! z (pos 1))
+    omega (zarith, (less-one-held 6 z (rw e at (held_at (header_fields l) s.args.numbers.now s.requires.1 k h))).some, -! z (pos 1))
 
 -- what was read, and what a number that is not negative is as an index
 read : {r z : ℤ} → mag r < 2 ^ 63 → r ≡ z → to_z w64 (of_z w64 r) ≡ z

@@ -11,10 +11,10 @@ use mir.Syntax.{w64}
 use mir.Val.{to_z, of_z}
 use Rattle.integers.proofs.Machine.{back}
 use Rattle.integers.proofs.Omega.{le-true, le-false, true-lt, false-lt}
-use Rattle.layout.specs.Layout.{headerFields}
-use Rattle.layout_write.specs.Writing.{canHoldAll}
-use Rattle.frame.specs.Questions.{extentFits}
-use Rattle.writable.specs.Inner.{eachBetween}
+use Rattle.layout.specs.Layout.{header_fields}
+use Rattle.layout_write.specs.Writing.{can_hold_all}
+use Rattle.frame.specs.Questions.{extent_fits}
+use Rattle.writable.specs.Inner.{each_between}
 use Rattle.writable.proofs.All.{header-held}
 use Rattle.writable.proofs.Grids.{grid-held}
 use Rattle.writable.proofs.header_fits.Statement.{statement}
@@ -24,16 +24,16 @@ use Rattle.writable.proofs.header_fits.Tie as tie
 abbrev start : tie.After-each-between → tie.Start
 start c = c.before.before.before.before.before
 
-held : (c : tie.After-each-between) → let a = (start c).args in c.each-between.result ≡ canHoldAll (headerFields a.layout) a.numbers.now
+held : (c : tie.After-each-between) → let a = (start c).args in c.each-between.result ≡ can_hold_all (header_fields a.layout) a.numbers.now
 held c =
     let a = (start c).args in
     let high = c.before.before in
     let low = high.before.before in
     c.each-between.ensures
-    ∙ (λ i. eachBetween (low.lows.ensures i) (high.highs.ensures i) a.numbers.now)
-    ∙ header-held (headerFields a.layout) a.numbers.now (start c).requires.1
+    ∙ (λ i. each_between (low.lows.ensures i) (high.highs.ensures i) a.numbers.now)
+    ∙ header-held (header_fields a.layout) a.numbers.now (start c).requires.1
 
-all_held : (c : tie.Else1) → let a = (start c.before).args in canHoldAll (headerFields a.layout) a.numbers.now ≡ true
+all_held : (c : tie.Else1) → let a = (start c.before).args in can_hold_all (header_fields a.layout) a.numbers.now ≡ true
 all_held c = sym (held c.before) ∙ not-false c.before.each-between.result c.if1.false
 
 returns : tie.Need-returns
@@ -61,7 +61,7 @@ returns-3 c =
     let d = grid.before in
     let a = (start d.before.before.before).args in
     c.extent-fits.ensures
-    ∙ (λ i. extentFits (to_z-of_z {w = w64} {z = a.layout.farthest} (record { sfits = c.before.struct_told.given.1.1.1.1.0.1 }) i) (grid.grid-of.ensures i))
+    ∙ (λ i. extent_fits (to_z-of_z {w = w64} {z = a.layout.farthest} (record { sfits = c.before.struct_told.given.1.1.1.1.0.1 }) i) (grid.grid-of.ensures i))
     ∙ rw (all_held d.before.before, positive d) refl
 
 pub header-fits-spec : {M : Type 1} → statement M

@@ -6,7 +6,7 @@ use mir.Syntax.{w64}
 use Rattle.integers.proofs.Machine.{back}
 use Rattle.layout.specs.Layout.{signed}
 use Rattle.layout_write.specs.Writing.{least, greatest}
-use Rattle.writable.specs.Inner.{allBetween}
+use Rattle.writable.specs.Inner.{all_between}
 use Rattle.writable.proofs.Triangles.{triangles-same}
 use Rattle.writable.proofs.triangles_fit.Statement.{statement}
 use Rattle.writable.proofs.triangles_fit.Tie as tie
@@ -15,12 +15,12 @@ abbrev start : tie.After-all-between → tie.Start
 start c = c.before.before.before
 
 tested : (c : tie.After-all-between) → let a = (start c).args in
-    c.all-between.result ≡ allBetween (least signed a.layout.coordinate) (greatest signed a.layout.coordinate) a.triangles.now
+    c.all-between.result ≡ all_between (least signed a.layout.coordinate) (greatest signed a.layout.coordinate) a.triangles.now
 tested c =
     let high = c.before in
     let low = high.before in
     c.all-between.ensures
-    ∙ λ i. allBetween ((back w64 low.least-signed.type-inv ∙ low.least-signed.ensures) i) ((back w64 high.greatest-signed.type-inv ∙ high.greatest-signed.ensures) i) (start c).args.triangles.now
+    ∙ λ i. all_between ((back w64 low.least-signed.type-inv ∙ low.least-signed.ensures) i) ((back w64 high.greatest-signed.type-inv ∙ high.greatest-signed.ensures) i) (start c).args.triangles.now
 
 returns : tie.Need-returns
 returns c =

@@ -2,7 +2,7 @@
 use borrow.Author.Rules.{rules}
 use mathlib.Core.Path.{◌≡◌, refl, ap, ◌∙◌}
 use mir.Facts.{to_z-of_z}
-use Rattle.bits.specs.Field.{field_at, twosComplement, signedAt}
+use Rattle.bits.specs.Field.{field_at, twos_complement, signed_at}
 use Rattle.bits.proofs.Fields.{field_lt, field-of-word}
 use Rattle.bits.proofs.Cursor.take_inside.Statement.{statement}
 use Rattle.bits.proofs.Cursor.take_inside.Tie as tie
@@ -19,11 +19,11 @@ sign-extend-requires c κs =
     (s.requires.0, s.requires.1, rw (taken c) (field_lt a.s.now a.self.at a.width))
 
 returns : tie.Need-returns
-unfolding signedAt
+unfolding signed_at
 returns c =
     let p = c.before in
     let w = p.before.before.before.args.width in
-    record { value = to_z-of_z (record { sfits = c.sign-extend.type-inv }) ∙ c.sign-extend.ensures ∙ ap (twosComplement w) (taken p); next = refl }
+    record { value = to_z-of_z (record { sfits = c.sign-extend.type-inv }) ∙ c.sign-extend.ensures ∙ ap (twos_complement w) (taken p); next = refl }
 
 pub take-inside-spec : {M : Type 1} → statement M
 take-inside-spec = tie.close (tie.spec (λ c κs. search rules) (λ c κs. search rules) (λ c. search rules) sign-extend-requires returns)

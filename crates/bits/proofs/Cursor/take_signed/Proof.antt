@@ -2,7 +2,7 @@
 use borrow.Author.Rules.{rules}
 use mathlib.Core.Path.{refl, ap, ◌∙◌}
 use mir.Facts.{to_z-of_z}
-use Rattle.bits.specs.Field.{twosComplement, signedAt}
+use Rattle.bits.specs.Field.{twos_complement, signed_at}
 use Rattle.bits.proofs.Fields.{field_lt}
 use Rattle.bits.proofs.Cursor.take_signed.Statement.{statement}
 use Rattle.bits.proofs.Cursor.take_signed.Tie as tie
@@ -14,11 +14,11 @@ sign-extend-requires c κs =
     (p.0, p.1, rw c.before.take.ensures.value (field_lt a.s.now a.self.at a.width))
 
 returns : tie.Need-returns
-unfolding signedAt
+unfolding signed_at
 returns c =
     let field = c.before.before.take.ensures in
     let w = c.before.before.before.before.args.width in
-    record { value = to_z-of_z (record { sfits = c.sign-extend.type-inv }) ∙ c.sign-extend.ensures ∙ ap (twosComplement w) field.value; next = refl }
+    record { value = to_z-of_z (record { sfits = c.sign-extend.type-inv }) ∙ c.sign-extend.ensures ∙ ap (twos_complement w) field.value; next = refl }
 
 pub take-signed-spec : {M : Type 1} → statement M
 take-signed-spec = tie.close (tie.spec (λ c κs. search rules) (λ c. search rules) sign-extend-requires returns)

@@ -3,7 +3,7 @@ use borrow.Author.Rules.{rules}
 use Prim.Native.Nat.{◌+◌, ◌-◌, ◌*◌, ◌^◌}
 use native.Mathlib.Omega.{arith}
 use lib.Pow.{pow_pos}
-use Rattle.bits.specs.Inner.{penBits, penNumber}
+use Rattle.bits.specs.Inner.{pen_bits, pen_number}
 use Rattle.bits.proofs.Fields.{one_shl}
 use Rattle.bits.proofs.Pens.{Turn, joined-lt, begins, byte-lt, turns}
 use Rattle.bits.proofs.Pen.put.Statement.{statement}
@@ -11,7 +11,7 @@ use Rattle.bits.proofs.Pen.put.Tie as tie
 
 abbrev invariant-loop : tie.invariant-loop
 invariant-loop self out₀ width value at₀ bits₀ held₀ out at bits held =
-    Turn (penNumber out₀ self * 2 ^ width + value) (penBits self + width) out₀ out (record { at = at; bits = bits; held = held })
+    Turn (pen_number out₀ self * 2 ^ width + value) (pen_bits self + width) out₀ out (record { at = at; bits = bits; held = held })
 
 abbrev decreases-loop : tie.decreases-loop
 decreases-loop self out₀ width value at₀ bits₀ held₀ out at bits held = bits
