@@ -1,5 +1,7 @@
 // The bar behind a cell, as text: the answer, and lines for people: where the cell is, the triangle that reaches it, and a
 // point of the triangle in the cell.
+#![tactic(auto)]
+
 ghost use Rattle.std.specs.Prelude.{◌≡◌, ◌+◌, ◌*◌, ◌^◌, ◌<◌, ◌≤◌, pos, nat_abs, ◌+ℤ◌, ◌*ℤ◌, length, ◌<ℤ◌};
 ghost use Rattle.integers.specs.Within.{Within};
 ghost use Rattle.geometry.specs.Bounds.{TriangleWithin};

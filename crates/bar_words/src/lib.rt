@@ -1,1 +1,2 @@
 // Theorems about the bar behind a cell; no code.
+#![tactic(auto)]

@@ -1,26 +1,28 @@
 // Bit fields in a slice of bytes, the most significant bit first: a cursor that reads them and a pen that writes them.
 //
 // A field that is read may run over the end of the slice: the bits there are 0.
+#![tactic(auto)]
+
 ghost use Rattle.std.specs.Prelude.{◌≡◌, ◌+◌, ◌-◌, ◌*◌, ◌/◌, ◌%◌, ◌<◌, ◌≤◌, ◌^◌, get_or, length};
 ghost use Rattle.integers.specs.Within.{Within};
 ghost use Rattle.bits.specs.Field.{field_at, twos_complement, complement_of};
 ghost use Rattle.bits.specs.Inner.{Taken, TakenSigned, Room, Put};
 
 // A position in a string of bits, counted from the first byte's highest bit.
-#[derive(Drop)]
+#[derive(Clone, Copy)]
 pub struct Cursor {
     pub at: usize,
 }
 
 // An unsigned field, and the cursor behind it.
-#[derive(Drop)]
+#[derive(Clone, Copy)]
 pub struct Field {
     pub value: u32,
     pub next: Cursor,
 }
 
 // A signed field, and the cursor behind it.
-#[derive(Drop)]
+#[derive(Clone, Copy)]
 pub struct SignedField {
     pub value: i64,
     pub next: Cursor,
@@ -136,7 +138,7 @@ fn sign_extend(n: u32, width: usize) -> i64
 
 // A bit writer: what has been written of a string of bits. So many whole bytes went out, and less than a byte more is held
 // back.
-#[derive(Drop)]
+#[derive(Clone, Copy)]
 pub struct Pen {
     pub at: usize,
     pub bits: usize,

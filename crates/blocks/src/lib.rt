@@ -1,5 +1,7 @@
 // Blocks of columns: a triangle's box of cells is halved across two sides, by a loop over a list of pending blocks, down to blocks whose columns are
 // looked at one by one.
+#![tactic(auto)]
+
 ghost use Rattle.std.specs.Prelude.{◌≡◌, false, ◌+◌, ◌/◌, ◌<◌, ◌≤◌, pos, length};
 ghost use Rattle.std.specs.Int.Signed.{lt_z};
 ghost use Rattle.integers.specs.Within.{Within};
@@ -15,7 +17,7 @@ use grid::{BoxRange, CellRange};
 
 // A block of columns: those from u0 on and below u1 on one axis, and from v0 on and below v1 on the other. The numbers are at most 64, so
 // that a block takes four bytes.
-#[derive(Drop)]
+#[derive(Clone, Copy)]
 struct Block {
     u0: u8,
     u1: u8,
@@ -24,7 +26,7 @@ struct Block {
 }
 
 // A block cut in two.
-#[derive(Drop)]
+#[derive(Clone, Copy)]
 struct Halves {
     low: Block,
     high: Block,

@@ -1,4 +1,6 @@
 // The overlap rule of one triangle and one box, in two parts: their boxes, and what is beyond them. A fill asks it of many boxes, by forms that are set up once.
+#![tactic(auto)]
+
 ghost use Rattle.std.specs.Prelude.{[], ◌∷◌, ◌≡◌, pos, ◌≤ℤ◌};
 ghost use Rattle.integers.specs.Within.{Within, Withins};
 ghost use Rattle.geometry.specs.Bounds.{offset_max, normal_max, extent_max, each, PointWithin, TriangleWithin, BoundedPoint, BoundedTriangle};

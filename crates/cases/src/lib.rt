@@ -11,6 +11,8 @@
 //     digest NAME: ROUTE, ROUTE   fills the buffer, and prints digests of it and of the routes' answers
 // A line goes by its first letter, and one that begins with # is a comment. File and buffer stay as they are until the
 // next line that changes them: a fill leaves its map for the routes behind it.
+#![tactic(auto)]
+
 mod text;
 
 ghost use Rattle.std.specs.Prelude.{◌≡◌, ◌<◌, ◌≤◌, length};
@@ -21,7 +23,7 @@ use points::Point;
 use route::RouteAnswer;
 
 // How many bytes the frame file and the buffer have.
-#[derive(Drop)]
+#[derive(Clone, Copy)]
 struct Held {
     file: usize,
     map: usize,

@@ -1,4 +1,6 @@
 // Where a cell is, as a line of text: its place along x, y and z, and its box.
+#![tactic(auto)]
+
 ghost use Rattle.std.specs.Prelude.{◌≡◌, ◌+◌, ◌≤◌, ◌<◌, ◌^◌, pos, ◌+ℤ◌, ◌*ℤ◌, length};
 ghost use Rattle.integers.specs.Within.{Within};
 ghost use Rattle.grid.specs.Grid.{cell_count};

@@ -1,1 +1,2 @@
 // Theorems about the columns of a grid and the overlap rule; no code.
+#![tactic(auto)]

@@ -1,4 +1,6 @@
 // Columns of a grid's cells: the cells of a column that pass a triangle's forms are filled.
+#![tactic(auto)]
+
 ghost use Rattle.std.specs.Prelude.{◌≡◌, ◌<◌, ◌≤◌, length, pos};
 ghost use Rattle.integers.specs.Within.{Within};
 ghost use Rattle.geometry.specs.Bounds.{index_max};
@@ -12,7 +14,7 @@ use grid::CellRange;
 
 // How a grid's cells are numbered, with its axes in some turn: how far apart the numbers of neighbours on each axis are, and how many cells
 // there are.
-#[derive(Drop)]
+#[derive(Clone, Copy)]
 pub struct Strides {
     pub su: usize,
     pub nu: usize,

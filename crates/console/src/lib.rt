@@ -1,12 +1,14 @@
 // What the programs for people share: a file comes from standard input; an answer goes to standard output; what else the
 // command that runs them has to know goes to standard error, in lines.
+#![tactic(auto)]
+
 ghost use Rattle.io.specs.Counts.{IsPrefixLen};
 
 use libc::{STDERR_FILENO, STDIN_FILENO, STDOUT_FILENO};
 
 // What was read: so many bytes at the start of the buffer, up to the end of the input or of the room for it. It is not whole
 // where a read failed.
-#[derive(Drop)]
+#[derive(Clone, Copy)]
 pub struct Input {
     pub len: usize,
     pub whole: bool,

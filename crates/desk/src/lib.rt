@@ -1,5 +1,7 @@
 // The library for a program of the drawing office or of a service laptop, in C or Rust: each call's answer packed into one
 // number. It is an archive of its own, so that the controller's has what runs on the controller alone.
+#![tactic(auto)]
+
 ghost use Rattle.std.specs.Prelude.{◌≡◌, ◌<◌, ◌^◌, length};
 ghost use Rattle.pack.specs.Pack.{packed_count, unpacked_count};
 ghost use Rattle.refusal.specs.Limit.{gives};

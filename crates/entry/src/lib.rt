@@ -1,4 +1,6 @@
 // Where along a leg a box is entered: the entry parameter of the slab method, as an exact fraction of the leg.
+#![tactic(auto)]
+
 ghost use Rattle.std.specs.Prelude.{[], ◌∷◌, ◌≡◌, ◌≤◌};
 ghost use Rattle.integers.specs.Within.{Withins};
 ghost use Rattle.geometry.specs.Bounds.{index_max, BoundedPoint};
@@ -10,14 +12,14 @@ use geometry::Point;
 use grid::Lattice;
 
 // num / den, where den is positive: a fraction of a leg, 0 at its start and 1 at its end.
-#[derive(Drop)]
+#[derive(Clone, Copy)]
 pub struct Fraction {
     pub num: i64,
     pub den: i64,
 }
 
 // On an axis, a leg comes to the box with number i at the fraction (num + slope × i) / den.
-#[derive(Drop)]
+#[derive(Clone, Copy)]
 pub struct AxisEntry {
     pub num: i64,
     pub slope: i64,
@@ -25,7 +27,7 @@ pub struct AxisEntry {
 }
 
 // The same on each axis.
-#[derive(Drop)]
+#[derive(Clone, Copy)]
 pub struct Entries {
     pub x: AxisEntry,
     pub y: AxisEntry,

@@ -1,4 +1,6 @@
 // The fill: a frame file's triangles into the map of its grid.
+#![tactic(auto)]
+
 ghost use Rattle.std.specs.Prelude.{◌≡◌, ◌≤◌, ◌-◌, length};
 ghost use Rattle.refusal.specs.Limit.{gives};
 ghost use Rattle.grid.specs.Grid.{cell_count};
@@ -12,7 +14,7 @@ use layout::Header;
 use refusal::Limit;
 
 // What a fill answers: the number of filled cells, or the first limit broken.
-#[derive(Drop)]
+#[derive(Clone, Copy)]
 pub enum Filling {
     Filled(usize),
     Refused(Limit),

@@ -1,4 +1,6 @@
 // The filled cell that a leg reaches first.
+#![tactic(auto)]
+
 ghost use Rattle.std.specs.Prelude.{◌≡◌, ◌+◌, ◌/◌, ◌%◌, ◌<◌, ◌≤◌, length};
 ghost use Rattle.geometry.specs.Bounds.{BoundedPoint};
 ghost use Rattle.grid.specs.Grid.{cell_count};
@@ -20,7 +22,7 @@ use touch::Found;
 
 // What the traversal of the cells along a leg goes by: the grid, the leg's block of cells, its slabs, and where it enters
 // the cells.
-#[derive(Drop)]
+#[derive(Clone, Copy)]
 pub struct Traversal {
     pub g: Grid,
     pub block: BoxRange,
@@ -29,7 +31,7 @@ pub struct Traversal {
 }
 
 // The cell found so far, and the fraction of the leg at which it is entered.
-#[derive(Drop)]
+#[derive(Clone, Copy)]
 pub struct Best {
     pub cell: usize,
     pub at: Fraction,

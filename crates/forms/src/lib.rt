@@ -1,5 +1,7 @@
 // The forms of a triangle (the set-up of Schwarz and Seidel): linear functions of a cell's numbers, whose signs decide the overlap rule. The axes are
 // named u, v and w: x, y and z, or a turn of them. The numbers stand in one list, which is lent: a struct by value would be copied at each call.
+#![tactic(auto)]
+
 ghost use Rattle.std.specs.Prelude.{[], ◌∷◌, ◌≡◌, ◌^◌, ◌<◌, pos, ◌≤ℤ◌};
 ghost use Rattle.integers.specs.Within.{Within, Withins};
 ghost use Rattle.geometry.specs.Bounds.{offset_max, step_max, extent_max, TriangleWithin};
@@ -11,7 +13,7 @@ ghost use Rattle.forms.specs.Triangle.{edge_form, inside_from, edge_between, pla
 use geometry::{Point, Triangle};
 
 // An edge in the plane of two axes: a cell with the numbers i and j there reaches the edge's inner side where a × i + b × j + c >= 0.
-#[derive(Drop)]
+#[derive(Clone, Copy)]
 pub struct EdgeForm {
     pub a: i64,
     pub b: i64,
@@ -19,7 +21,7 @@ pub struct EdgeForm {
 }
 
 // An edge in the three planes; and the value of its form of uv from which on a whole square is on the inner side.
-#[derive(Drop)]
+#[derive(Clone, Copy)]
 pub struct Edge {
     pub uv: EdgeForm,
     pub vw: EdgeForm,
@@ -28,7 +30,7 @@ pub struct Edge {
 }
 
 // A triangle's plane, turned so that it does not fall along w: it passes cell (i, j, k) where 0 <= at + u × i + v × j + w × k <= reach.
-#[derive(Drop)]
+#[derive(Clone, Copy)]
 pub struct PlaneForm {
     pub u: i64,
     pub v: i64,

@@ -1,4 +1,6 @@
 // The frame file: the questions put to it, and the reading of its header and its records.
+#![tactic(auto)]
+
 ghost use Rattle.std.specs.Prelude.{◌≡◌, ◌≤◌, ◌<◌, ◌^◌, length};
 ghost use Rattle.integers.specs.Within.{Within};
 ghost use Rattle.refusal.specs.Questions.{of_each};
@@ -85,7 +87,7 @@ fn check_kinds(layout: Layout, file: &[u8], count: usize) -> Verdict
 }
 
 // Whether a file is accepted, with its header, or the first limit that it breaks.
-#[derive(Drop)]
+#[derive(Clone, Copy)]
 pub enum Checked {
     Accepted(Header),
     Refused(Limit),
@@ -143,7 +145,7 @@ pub fn record_inside(file: &[u8], i: usize) -> Record
 }
 
 // What a plain reading answers: the header's values with a record's, or with none, or the first limit broken.
-#[derive(Drop)]
+#[derive(Clone, Copy)]
 pub enum Reading {
     Found(Header, Record),
     NoRecord(Header),

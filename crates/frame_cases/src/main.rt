@@ -1,4 +1,6 @@
 // Reads, fills and tests the worked frames and others. Standard input has the cases, as the crate `cases` says.
+#![tactic(auto)]
+
 fn main() {
     cases::run();
 }

@@ -1,5 +1,7 @@
 // A frame as text: a line with the grid's values and the count of triangles, and a line a triangle, with the kind in words
 // behind it.
+#![tactic(auto)]
+
 ghost use Rattle.std.specs.Prelude.{◌+◌, ◌≤◌, length};
 ghost use Rattle.text.specs.Inner.{Puts};
 ghost use Rattle.numbers.specs.Numbers.{header_numbers, record_numbers};

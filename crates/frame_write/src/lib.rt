@@ -1,4 +1,6 @@
 // Writes frame files: from a grid's values and a list of triangles, ten numbers each.
+#![tactic(auto)]
+
 ghost use Rattle.std.specs.Prelude.{true, ◌++◌, ◌≡◌, ◌+◌, ◌*◌, ◌<◌, ◌≤◌, length, take, drop};
 ghost use Rattle.refusal.specs.Inner.{said_verdict, passed, asked};
 ghost use Rattle.layout.specs.Layout.{version1, header_fields, record_fields, record_start};
@@ -11,7 +13,7 @@ use layout::Layout;
 use refusal::{Limit, Verdict};
 
 // A grid's values: cells along x, y and z, cell edge, and the origin.
-#[derive(Drop)]
+#[derive(Clone, Copy)]
 pub struct GridValues {
     pub nx: i32,
     pub ny: i32,
@@ -39,7 +41,7 @@ pub fn grid_from(numbers: &[i32]) -> GridValues
 }
 
 // What a writing answers: the file's length, or the first limit broken.
-#[derive(Drop)]
+#[derive(Clone, Copy)]
 pub enum Written {
     Length(usize),
     Refused(Limit),

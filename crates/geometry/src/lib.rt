@@ -1,7 +1,8 @@
 // Points and triangles with whole-number coordinates.
+#![tactic(auto)]
 
 // A point, or a vector.
-#[derive(Drop)]
+#[derive(Clone, Copy)]
 pub struct Point {
     pub x: i64,
     pub y: i64,
@@ -9,7 +10,7 @@ pub struct Point {
 }
 
 // A triangle by its corners (vertices). They may coincide or stand in one line.
-#[derive(Drop)]
+#[derive(Clone, Copy)]
 pub struct Triangle {
     pub v0: Point,
     pub v1: Point,

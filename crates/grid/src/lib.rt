@@ -1,4 +1,6 @@
 // A grid of cubic cells: the boxes of its cells, ranges of cells, a cell's number, and the points inside.
+#![tactic(auto)]
+
 ghost use Rattle.std.specs.Prelude.{◌≡◌, ◌≤◌, ◌<◌, pos, ◌+ℤ◌, ◌*ℤ◌};
 ghost use Rattle.integers.specs.Within.{Within};
 ghost use Rattle.geometry.specs.Bounds.{coordinate_max, step_max};
@@ -9,7 +11,7 @@ ghost use Rattle.grid.specs.Usable.{GridWithin};
 use geometry::Point;
 
 // nx × ny × nz cells with edge `edge`, from the point `origin` on.
-#[derive(Drop)]
+#[derive(Clone, Copy)]
 pub struct Grid {
     pub nx: usize,
     pub ny: usize,
@@ -19,7 +21,7 @@ pub struct Grid {
 }
 
 // The boxes of a grid's cells: the lowest corner of the first, how far apart the boxes of neighbours begin, and how large a box is.
-#[derive(Drop)]
+#[derive(Clone, Copy)]
 pub struct Lattice {
     pub first: Point,
     pub step: i64,
@@ -27,14 +29,14 @@ pub struct Lattice {
 }
 
 // The cells of an axis from `first` on and below `end`.
-#[derive(Drop)]
+#[derive(Clone, Copy)]
 pub struct CellRange {
     pub first: usize,
     pub end: usize,
 }
 
 // A range of cells on each axis.
-#[derive(Drop)]
+#[derive(Clone, Copy)]
 pub struct BoxRange {
     pub x: CellRange,
     pub y: CellRange,

@@ -1,4 +1,6 @@
 // Leaf functions for signed code: each does one thing that a caller would otherwise prove again.
+#![tactic(auto)]
+
 ghost use Rattle.std.specs.Prelude.{◌≡◌, ◌^◌, ◌<◌, pos, nat_abs, length, get_or, ◌≤ℤ◌, ◌<ℤ◌};
 ghost use Rattle.integers.specs.Within.{Within};
 ghost use Rattle.integers.specs.Order.{min_ℤ, max_ℤ};

@@ -1,4 +1,6 @@
 // The layout of the frame file: a header and records of bit fields, and how they are read.
+#![tactic(auto)]
+
 ghost use Rattle.std.specs.Prelude.{◌≡◌, ◌+◌, ◌*◌, ◌/◌, ◌<◌, ◌≤◌, ◌^◌, length};
 ghost use Rattle.layout.specs.Layout.{version1, record_start};
 ghost use Rattle.layout.specs.Values.{record_in, kind_in, from_record};
@@ -10,7 +12,7 @@ use grid::Grid;
 
 // What differs between the versions of the file: lengths in bytes, widths in bits, and the farthest
 // coordinate that a grid may reach.
-#[derive(Drop)]
+#[derive(Clone, Copy)]
 pub struct Layout {
     pub header: usize,
     pub stride: usize,
@@ -33,7 +35,7 @@ pub fn version_1() -> Layout
 }
 
 // The header's values: the grid, and how many triangles follow.
-#[derive(Drop)]
+#[derive(Clone, Copy)]
 pub struct Header {
     pub version: u32,
     pub grid: Grid,
@@ -41,14 +43,14 @@ pub struct Header {
 }
 
 // A record's values: the kind, and a triangle.
-#[derive(Drop)]
+#[derive(Clone, Copy)]
 pub struct Record {
     pub triangle: Triangle,
     pub kind: u32,
 }
 
 // Three numbers of cells, and the cursor behind them.
-#[derive(Drop)]
+#[derive(Clone, Copy)]
 struct CellsField {
     nx: usize,
     ny: usize,
@@ -57,7 +59,7 @@ struct CellsField {
 }
 
 // The header's values, and its last bits, which are to be zero.
-#[derive(Drop)]
+#[derive(Clone, Copy)]
 pub struct HeaderFields {
     pub header: Header,
     pub reserved: u32,

@@ -1,4 +1,6 @@
 // How the numbers of a header and of a record are put into bytes, field by field.
+#![tactic(auto)]
+
 ghost use Rattle.std.specs.Prelude.{true, ◌≡◌, length};
 ghost use Rattle.layout.specs.Layout.{field, plain, less_one, signed, header_fields, record_fields};
 ghost use Rattle.layout_write.specs.Writing.{can_hold_all, header_bytes, record_bytes};

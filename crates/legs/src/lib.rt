@@ -1,5 +1,7 @@
 // Legs of a route: which cells of its box a leg touches. A leg from A to B is the triangle A, B, B, so that its plane
 // rules out no cell, and in the plane of two axes the tests of its edges are one slab.
+#![tactic(auto)]
+
 ghost use Rattle.std.specs.Prelude.{[], ◌∷◌, ◌≡◌, ◌≤◌};
 ghost use Rattle.integers.specs.Within.{Within, Withins};
 ghost use Rattle.geometry.specs.Bounds.{index_max, BoundedPoint};
@@ -11,7 +13,7 @@ use geometry::Point;
 use grid::{CellRange, Lattice};
 
 // In the plane of two axes, the cells at which a × i + b × j + c is from 0 to `reach`, both included.
-#[derive(Drop)]
+#[derive(Clone, Copy)]
 pub struct Slab {
     pub a: i64,
     pub b: i64,
@@ -20,7 +22,7 @@ pub struct Slab {
 }
 
 // A slab in each plane: x and y, y and z, z and x.
-#[derive(Drop)]
+#[derive(Clone, Copy)]
 pub struct Slabs {
     pub xy: Slab,
     pub yz: Slab,

@@ -1,5 +1,7 @@
 // The map lister: a frame file from standard input, the listing of its map to standard output. The line of a refusal goes to
 // standard error too, for the command that runs it.
+#![tactic(auto)]
+
 ghost use Rattle.std.specs.Prelude.{◌≤◌, length};
 
 use listing::{Begun, Piece, Rest};

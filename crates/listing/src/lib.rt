@@ -1,5 +1,7 @@
 // The listing of a file's map as text: the first line, then the lines of the filled cells, piece by piece, into bytes
 // that the caller lends.
+#![tactic(auto)]
+
 ghost use Rattle.std.specs.Prelude.{true, ◌≡◌, ◌+◌, ◌-◌, ◌*◌, ◌<◌, ◌≤◌, length};
 ghost use Rattle.refusal.specs.Limit.{refusal_of, gives};
 ghost use Rattle.grid.specs.Grid.{cell_count};
@@ -18,14 +20,14 @@ use layout::Header;
 use refusal::Limit;
 
 // What is left to list: the grid, and the cell to go on from. Its fields are private: a program hands it on as it is.
-#[derive(Drop)]
+#[derive(Clone, Copy)]
 pub struct Rest {
     grid: Grid,
     from: usize,
 }
 
 // How a listing begins.
-#[derive(Drop)]
+#[derive(Clone, Copy)]
 pub enum Begun {
     // So many bytes of the first line were put, and the lines of these cells follow.
     More(usize, Rest),
@@ -36,7 +38,7 @@ pub enum Begun {
 }
 
 // What a call for more lines says.
-#[derive(Drop)]
+#[derive(Clone, Copy)]
 pub enum Piece {
     // So many bytes were put, and this is left.
     Written(usize, Rest),
@@ -47,7 +49,7 @@ pub enum Piece {
 }
 
 // A cell, and a place in the output.
-#[derive(Drop)]
+#[derive(Clone, Copy)]
 struct Place {
     cell: usize,
     at: usize,

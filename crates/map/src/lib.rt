@@ -1,4 +1,6 @@
 // The map of a grid's cells (an occupancy grid), one bit a cell, in bytes that the caller lends.
+#![tactic(auto)]
+
 ghost use Rattle.std.specs.Prelude.{◌≡◌, ◌++◌, ◌+◌, ◌*◌, ◌<◌, ◌≤◌, ◌^◌, length, drop, get_or, replicate};
 ghost use Rattle.map.specs.Map.{map_length, is_filled, count_below};
 ghost use Rattle.map.specs.Inner.{NextFilled, with_filled, OnesOf};

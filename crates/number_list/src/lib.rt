@@ -1,4 +1,6 @@
 // A list of numbers, from text: numbers in base ten, parted by spaces, line feeds and comments.
+#![tactic(auto)]
+
 ghost use Rattle.std.specs.Prelude.{true, ◌≡◌, ◌+◌, drop, set};
 ghost use Rattle.number_list.specs.Numbers.{fits, held, number_of, reading_of, answer_from, numbers_in, over};
 ghost use Rattle.number_list.specs.Inner.{is_word, word_length, line_length};
@@ -6,7 +8,7 @@ ghost use Rattle.number_list.specs.Inner.{is_word, word_length, line_length};
 use parse::Word;
 
 // How a text was read: so many numbers, or the line of the first word that is no number of 32 bits.
-#[derive(Drop)]
+#[derive(Clone, Copy)]
 pub enum Listed {
     Numbers(usize),
     Wrong(usize),

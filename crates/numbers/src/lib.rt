@@ -1,4 +1,6 @@
 // The numbers of a plain reading, as they are put out.
+#![tactic(auto)]
+
 ghost use Rattle.std.specs.Prelude.{◌++◌, ◌≡◌, ◌≤◌, ◌^◌, pos, length, drop};
 ghost use Rattle.integers.specs.Within.{Within};
 ghost use Rattle.numbers.specs.Numbers.{header_numbers, record_numbers};

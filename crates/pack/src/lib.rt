@@ -1,4 +1,6 @@
 // A call's answer, packed into one number of 64 bits.
+#![tactic(auto)]
+
 ghost use Rattle.std.specs.Prelude.{◌≡◌, ◌<◌};
 ghost use Rattle.refusal.specs.Limit.{refusal_of};
 ghost use Rattle.pack.specs.Pack.{packed, packed_refusal};

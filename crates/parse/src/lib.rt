@@ -1,9 +1,11 @@
 // Numbers in base ten, from text: what a person typed.
+#![tactic(auto)]
+
 ghost use Rattle.std.specs.Prelude.{◌≡◌, ◌<◌, ◌^◌};
 ghost use Rattle.parse.specs.Parse.{has_minus, is_figure, with_sign, figures, number_in};
 
 // What a word says: a whole number, or none.
-#[derive(Drop)]
+#[derive(Clone, Copy)]
 pub enum Word {
     Number(i64),
     NoNumber,

@@ -1,4 +1,6 @@
 // A triangle and the boxes of a grid's cells: the row of cells that it stays within, and both seen with the axes in some turn.
+#![tactic(auto)]
+
 ghost use Rattle.std.specs.Prelude.{[], ◌∷◌, ◌≡◌, ◌<◌, ◌≤◌};
 ghost use Rattle.integers.specs.Within.{Withins};
 ghost use Rattle.geometry.specs.Bounds.{offset_max, each, TriangleWithin, BoundedPoint, BoundedTriangle};
@@ -18,7 +20,7 @@ use grid::{BoxRange, CellRange, Grid, Lattice};
 
 // A triangle to be filled in columns along the third axis: its corners, measured from the lowest corner of the first box, and its normal; how the
 // cells are numbered, and the triangle's box of them. The axes are taken in some turn.
-#[derive(Drop)]
+#[derive(Clone, Copy)]
 pub struct Placed {
     pub t: Triangle,
     pub n: Point,

@@ -1,4 +1,6 @@
 // A scanner's file in the PLY format: its length, its vertices and its faces, and the corners of a face.
+#![tactic(auto)]
+
 ghost use Rattle.std.specs.Prelude.{◌≡◌, ◌+◌, ◌<◌, ◌≤◌, eqb, length};
 ghost use Rattle.refusal.specs.Inner.{said_verdict, asked};
 ghost use Rattle.refusal.specs.Questions.{of_each};
@@ -145,7 +147,7 @@ pub fn check_faces(s: &[u8], f: Form) -> Verdict
 }
 
 // A corner of a triangle, in whole millimetres.
-#[derive(Drop)]
+#[derive(Clone, Copy)]
 pub struct Corner {
     pub x: i32,
     pub y: i32,

@@ -1,11 +1,13 @@
 // The header of a PLY file, read line by line in one pass.
+#![tactic(auto)]
+
 ghost use Rattle.std.specs.Prelude.{[], ◌∷◌, ◌≡◌, length, drop};
 ghost use Rattle.ply_header.specs.Text.{behind, past_comments, line, digit, count_from, count, counted};
 ghost use Rattle.ply_header.specs.Header.{scalar, axis, header};
 ghost use Rattle.ply_header.specs.Inner.{roomy, comment_word, limited, opening, axes, closing};
 
 // The scalar types of PLY that a coordinate may have.
-#[derive(Drop)]
+#[derive(Clone, Copy)]
 pub enum Scalar {
     Float,
     Double,
@@ -13,7 +15,7 @@ pub enum Scalar {
 }
 
 // What a header says.
-#[derive(Drop)]
+#[derive(Clone, Copy)]
 pub struct Form {
     pub x: Scalar,
     pub y: Scalar,
@@ -25,35 +27,35 @@ pub struct Form {
 }
 
 // A header of the one form that is taken, or another.
-#[derive(Drop)]
+#[derive(Clone, Copy)]
 pub enum Header {
     Taken(Form),
     Other,
 }
 
 // The place behind a text that was looked for.
-#[derive(Drop)]
+#[derive(Clone, Copy)]
 enum Found {
     At(usize),
     Absent,
 }
 
 // A count, and the place behind its line.
-#[derive(Drop)]
+#[derive(Clone, Copy)]
 enum Counted {
     Count(usize, usize),
     NoCount,
 }
 
 // The scalar type of a property, and a place behind it.
-#[derive(Drop)]
+#[derive(Clone, Copy)]
 enum Axis {
     Typed(Scalar, usize),
     NoAxis,
 }
 
 // The scalar types of the three coordinates, and the place behind their lines.
-#[derive(Drop)]
+#[derive(Clone, Copy)]
 enum Axes {
     AllTyped(Scalar, Scalar, Scalar, usize),
     NoAxes,

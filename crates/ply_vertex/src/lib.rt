@@ -1,4 +1,6 @@
 // The numbers of a PLY body, the lowest byte first, and its vertices.
+#![tactic(auto)]
+
 ghost use Rattle.std.specs.Prelude.{true, false, ◌≡◌, ◌+◌, ◌*◌, ◌<◌, ◌≤◌, length};
 ghost use Rattle.bits.specs.Field.{twos_complement};
 ghost use Rattle.rounding.specs.Rounding.{rounded_of, is_whole};

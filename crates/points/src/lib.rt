@@ -1,4 +1,6 @@
 // The route test on points that are structs.
+#![tactic(auto)]
+
 ghost use Rattle.std.specs.Prelude.{◌≡◌, ◌*◌, ◌≤◌, ◌<◌, min, take};
 ghost use Rattle.demand.specs.Route.{route_answer};
 ghost use Rattle.route.specs.Said.{said_route};
@@ -9,7 +11,7 @@ ghost use Rattle.points.specs.Inner.{with_point};
 use route::RouteAnswer;
 
 // A point of a route.
-#[derive(Drop)]
+#[derive(Clone, Copy)]
 pub struct Point {
     pub x: i16,
     pub y: i16,

@@ -1,4 +1,6 @@
 // Ranges of cells: on each axis, the cells whose boxes a triangle's box touches.
+#![tactic(auto)]
+
 ghost use Rattle.std.specs.Prelude.{[], ◌∷◌, ◌^◌, ◌<◌, pos, ◌<ℤ◌};
 ghost use Rattle.integers.specs.Within.{Withins};
 ghost use Rattle.integers.specs.Order.{min_ℤ, max_ℤ};

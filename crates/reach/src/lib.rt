@@ -1,1 +1,2 @@
 // Theorems about the overlap rule; no code.
+#![tactic(auto)]

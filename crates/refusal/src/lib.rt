@@ -1,9 +1,11 @@
 // Refusals: the limits that an input may break, and the number and the place that a refused call says.
+#![tactic(auto)]
+
 ghost use Rattle.std.specs.Prelude.{◌≡◌};
 ghost use Rattle.refusal.specs.Limit.{numbered, refusal_of};
 
 // A limit that an input breaks, named by what is wrong with it.
-#[derive(Drop)]
+#[derive(Clone, Copy)]
 pub enum Limit {
     ShortHeader,
     Version,
@@ -24,7 +26,7 @@ pub enum Limit {
 }
 
 // What a refused call says: the number of the first limit broken, and the place.
-#[derive(Drop)]
+#[derive(Clone, Copy)]
 pub struct Refusal {
     pub number: u32,
     pub place: usize,
@@ -64,7 +66,7 @@ impl Limit {
 }
 
 // Whether an input passes some questions, or the first limit that it breaks.
-#[derive(Drop)]
+#[derive(Clone, Copy)]
 pub enum Verdict {
     Passed,
     Broken(Limit),

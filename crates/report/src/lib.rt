@@ -1,5 +1,7 @@
 // What the programs that test print: a case's name, and then the answer in words and numbers, on standard output. Of
 // those programs' code this alone takes a header and a record apart, so that a change of those structs is a change here.
+#![tactic(auto)]
+
 use fill::Filling;
 use frame::Reading;
 use geometry::Point;

@@ -1,5 +1,7 @@
 // Measured numbers: a number of a scanner's file of any of three types, widened without loss to an `f64`, and rounded to the
 // nearest whole number.
+#![tactic(auto)]
+
 ghost use Rattle.std.specs.Prelude.{◌≡◌, true};
 ghost use Rattle.std.specs.Float.{binary64};
 ghost use Rattle.std.specs.Float.Ieee.{of_int};
@@ -8,7 +10,7 @@ ghost use Rattle.rounding.specs.Widening.{Equals, SameValue, widened_of, widened
 ghost use Rattle.rounding.specs.Inner.{refused_as};
 
 // A number of a file, of the type that its property says.
-#[derive(Drop)]
+#[derive(Clone, Copy)]
 pub enum Number {
     Float(f32),
     Double(f64),
@@ -16,7 +18,7 @@ pub enum Number {
 }
 
 // A vertex, in millimetres.
-#[derive(Drop)]
+#[derive(Clone, Copy)]
 pub struct Vertex {
     pub x: f64,
     pub y: f64,
@@ -24,7 +26,7 @@ pub struct Vertex {
 }
 
 // What a number is rounded to: a whole number from -8,192 to 8,191; or why there is none.
-#[derive(Drop)]
+#[derive(Clone, Copy)]
 pub enum Rounded {
     Whole(i32),
     NotFinite,

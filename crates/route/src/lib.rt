@@ -1,4 +1,6 @@
 // The route test: is a route free of the filled cells of a map?
+#![tactic(auto)]
+
 ghost use Rattle.std.specs.Prelude.{◌≡◌, ◌≤◌, ◌<◌, ◌^◌, length};
 ghost use Rattle.refusal.specs.Limit.{gives};
 ghost use Rattle.refusal.specs.Questions.{answered, of_each};
@@ -20,7 +22,7 @@ use touch::Found;
 
 // What a route test answers: the route is free; or blocked, by the first leg that touches a filled cell, at the filled
 // cell that this leg reaches first; or the first limit broken.
-#[derive(Drop)]
+#[derive(Clone, Copy)]
 pub enum RouteAnswer {
     Free,
     Blocked(usize, usize),

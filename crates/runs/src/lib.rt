@@ -1,4 +1,6 @@
 // Runs of cells in a row or a column, cut by linear forms of the cell's number.
+#![tactic(auto)]
+
 ghost use Rattle.std.specs.Prelude.{pos, ◌≤ℤ◌};
 ghost use Rattle.runs.specs.Run.{FormHolds, FormFails, Stepping, Splits, passes, SteppingIn, Narrows, in_slab, SlabReady};
 

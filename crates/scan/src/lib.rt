@@ -1,4 +1,6 @@
 // Makes a frame file from a scanner's file: the triangles of its faces, in whole millimetres, as the writer would write them.
+#![tactic(auto)]
+
 ghost use Rattle.std.specs.Prelude.{true, ◌++◌, ◌≡◌, length, take, drop};
 ghost use Rattle.refusal.specs.Inner.{said_verdict, asked};
 ghost use Rattle.layout.specs.Layout.{version1, record_start};

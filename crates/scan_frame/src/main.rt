@@ -1,6 +1,8 @@
 // Writes a frame file from a scanner's file: that from standard input, the grid's seven values as arguments, the frame file to
 // standard output. What the command has to know goes to standard error: how much was written, or why nothing was. An argument
 // that is no number of 32 bits gives no file: its place goes to standard error.
+#![tactic(auto)]
+
 ghost use Rattle.std.specs.Prelude.{◌≤◌, ◌<◌, length};
 
 use frame_write::{GridValues, Written};
@@ -8,7 +10,7 @@ use parse::Word;
 use refusal::Limit;
 
 // How the arguments were read: each is a number, or the place of the first that is none.
-#[derive(Drop)]
+#[derive(Clone, Copy)]
 enum Numbers {
     Read,
     Wrong(usize),

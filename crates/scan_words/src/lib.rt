@@ -1,1 +1,2 @@
 // What a scanner's file becomes, in words: theorems; no code.
+#![tactic(auto)]

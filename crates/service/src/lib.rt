@@ -1,4 +1,6 @@
 // The bar behind a cell: for a service tool, which triangle of a frame file reaches a cell of its grid, with weights that show where.
+#![tactic(auto)]
+
 ghost use Rattle.std.specs.Prelude.{◌≡◌, ◌<◌, pos, ◌≤ℤ◌};
 ghost use Rattle.integers.specs.Within.{Within};
 ghost use Rattle.refusal.specs.Limit.{gives};
@@ -19,7 +21,7 @@ use refusal::Limit;
 use weights::Weights;
 
 // What is behind a cell: no bar; the lowest record whose triangle reaches it, with weights; or the first limit broken.
-#[derive(Drop)]
+#[derive(Clone, Copy)]
 pub enum BarAnswer {
     Clear,
     Bar(usize, Weights),
@@ -90,7 +92,7 @@ fn overlaps(file: &[u8], i: usize, count: usize, p: Point, extent: i64) -> bool
 }
 
 // A triangle whose box meets a box, or one that lies beside it.
-#[derive(Drop)]
+#[derive(Clone, Copy)]
 enum Near {
     Beside,
     Meets(Triangle),

@@ -1,13 +1,15 @@
 // The bar behind a cell: a frame file from standard input, a cell's number as the one argument; the answer to standard
 // output. Where there is a bar, the cell's box, the triangle and a point of it in the cell go to standard error. An argument
 // that is no number of 32 bits gives no answer: its place goes to standard error.
+#![tactic(auto)]
+
 ghost use Rattle.std.specs.Prelude.{◌≤◌, length};
 
 use parse::Word;
 use service::BarAnswer;
 
 // What is asked for: a cell by its number, or nothing, where the argument says none.
-#[derive(Drop)]
+#[derive(Clone, Copy)]
 enum Asked {
     Cell(usize),
     Nothing,

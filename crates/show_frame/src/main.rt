@@ -1,5 +1,7 @@
 // Shows a frame file as text: the file from standard input, the text to standard output. What begins with # is for people.
 // The line of a refusal goes to standard error too, for the command that runs it.
+#![tactic(auto)]
+
 ghost use Rattle.std.specs.Prelude.{◌≡◌, ◌≤◌, length};
 ghost use Rattle.refusal.specs.Limit.{gives};
 ghost use Rattle.frame.specs.Questions.{checked};

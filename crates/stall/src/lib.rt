@@ -1,4 +1,6 @@
 // The library for a controller's program in C or Rust: each call's answer packed into one number.
+#![tactic(auto)]
+
 ghost use Rattle.std.specs.Prelude.{◌++◌, ◌≡◌, length};
 ghost use Rattle.refusal.specs.Limit.{gives};
 ghost use Rattle.frame.specs.Questions.{with_record, no_record, reading};

@@ -1,4 +1,6 @@
 // The fill in steps, for a caller that has other work between them: begin, some records at a time, end.
+#![tactic(auto)]
+
 ghost use Rattle.std.specs.Prelude.{◌≡◌};
 ghost use Rattle.refusal.specs.Questions.{answered};
 ghost use Rattle.frame.specs.File.{header_of};
@@ -10,7 +12,7 @@ use frame::Checked;
 use refusal::Limit;
 
 // What a step answers: a number, by the call, or the first limit broken.
-#[derive(Drop)]
+#[derive(Clone, Copy)]
 pub enum Step {
     Done(usize),
     Refused(Limit),

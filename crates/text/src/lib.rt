@@ -1,5 +1,7 @@
 // The text of a listing and of other answers, into bytes that the caller lends: lines, and what they are made of, numbers in
 // base ten, words and bytes. Each function answers the place behind what it puts.
+#![tactic(auto)]
+
 ghost use Rattle.std.specs.Prelude.{[], ◌∷◌, ◌≡◌, ◌+◌, ◌*◌, ◌^◌, ◌<◌, ◌≤◌, pos, length, get_or};
 ghost use Rattle.integers.specs.Within.{Within};
 ghost use Rattle.text.specs.Text.{decimal, signed_decimal, spaced};

@@ -1,4 +1,6 @@
 // The lowest filled cell of a block that lies in a leg's slabs: whether a leg is blocked.
+#![tactic(auto)]
+
 ghost use Rattle.std.specs.Prelude.{◌+◌, ◌*◌, ◌≤◌, length};
 ghost use Rattle.grid.specs.Grid.{cell_count};
 ghost use Rattle.grid.specs.Usable.{BoundedGrid};
@@ -10,7 +12,7 @@ use grid::{BoxRange, Grid};
 use legs::Slabs;
 
 // What a search answers: the number of a cell, or nothing.
-#[derive(Drop)]
+#[derive(Clone, Copy)]
 pub enum Found {
     Cell(usize),
     Nothing,

@@ -1,4 +1,6 @@
 // A triangle filled into a map: the cells whose boxes it overlaps.
+#![tactic(auto)]
+
 ghost use Rattle.std.specs.Prelude.{length};
 ghost use Rattle.geometry.specs.Bounds.{BoundedTriangle};
 ghost use Rattle.ranges.specs.Range.{PicksBox};

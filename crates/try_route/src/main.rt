@@ -1,6 +1,8 @@
 // The route tester: a frame file from standard input, a route's numbers as arguments; the answer to standard output.
 // Where the route is blocked, the cell's place and box and the bar behind it go to standard error. An argument that is no
 // number of 16 bits gives no answer: its place goes to standard error.
+#![tactic(auto)]
+
 ghost use Rattle.std.specs.Prelude.{◌≤◌, ◌<◌, length};
 
 use parse::Word;
@@ -8,7 +10,7 @@ use route::RouteAnswer;
 use service::BarAnswer;
 
 // How the arguments were read: so many numbers, or the place of the first that is none.
-#[derive(Drop)]
+#[derive(Clone, Copy)]
 enum Numbers {
     Read(usize),
     Wrong(usize),

@@ -1,4 +1,6 @@
 // Weights by which a triangle reaches a box: small whole numbers that anyone can check.
+#![tactic(auto)]
+
 ghost use Rattle.std.specs.Prelude.{[], ◌∷◌, ◌≡◌, ℕ, ◌+◌, ◌*◌, ◌^◌, ◌<◌};
 ghost use Rattle.integers.specs.Within.{Within, Withins};
 ghost use Rattle.geometry.specs.Bounds.{extent_max, normal_max, difference_max, PointWithin, TriangleWithin, BoundedPoint, BoundedTriangle};
@@ -11,7 +13,7 @@ ghost use Rattle.weights.specs.Inner.{side_bounds, sides_of, BoundedRows, Tells}
 use geometry::{Point, Triangle};
 
 // Weights of a triangle's corners (barycentric coordinates, up to a factor).
-#[derive(Drop)]
+#[derive(Clone, Copy)]
 pub struct Weights {
     pub w0: i64,
     pub w1: i64,
@@ -19,7 +21,7 @@ pub struct Weights {
 }
 
 // The two sides of a box on an axis, as rows: how far each corner is on the inner side.
-#[derive(Drop)]
+#[derive(Clone, Copy)]
 struct Sides {
     low: Point,
     high: Point,

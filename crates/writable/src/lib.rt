@@ -1,4 +1,6 @@
 // May these values be written? The tests of a header's numbers and of a list of triangles.
+#![tactic(auto)]
+
 ghost use Rattle.std.specs.Prelude.{true, ◌≡◌, ◌*◌, ◌≤◌, ◌^◌, pos, length};
 ghost use Rattle.layout.specs.Layout.{signed, header_fields};
 ghost use Rattle.layout.specs.Values.{header_from};

@@ -1,5 +1,7 @@
 // Writes a frame file from text: the text from standard input, the file to standard output. The text's eighth number says how
 // many triangles there are. What the command has to know goes to standard error: how much was written, or why nothing was.
+#![tactic(auto)]
+
 ghost use Rattle.std.specs.Prelude.{◌≤◌, length};
 
 use frame_write::Written;
