@@ -113,7 +113,7 @@ module _ (ρ : List ℤ) where
 
   runs_of : (e : Expr) (bs : List ℕ) → Withins bs ρ → T (small e bs) → Runs e
   runs_of (lit c) bs h t = (tt, refl)
-  runs_of (var i) bs h t = (tt, to_z-of_z (within-fits (lit< t) (within-nth ρ i bs h)))
+  runs_of (var i) bs h t = (tt, to_z-of_z {w = w64} (within-fits (lit< t) (within-nth ρ i bs h)))
   runs_of (raw i) bs h t = (tt, refl)
   runs_of (a ⊕ b) bs h t =
       binary ◌+ℤ◌ a b (small a bs) (small b bs) (top (a ⊕ b) bs) (runs_of a bs h) (runs_of b bs h) (bound ρ (a ⊕ b) bs h) t
