@@ -2,7 +2,7 @@
 use mathlib.Core.List.{List, [], ◌∷◌}
 use mathlib.Core.Path.{◌≡◌, refl}
 use Prim.Native.Nat.{ℕ}
-use lib.IntN.{ℤ, pos, neg_ℤ}
+use lib.IntN.{pos, neg_ℤ}
 use Rattle.bits.specs.Field.{bit_at, field_at, twos_complement, signed_at, complement_of, bytes_of}
 
 abbrev some_bytes : List ℕ

@@ -1,5 +1,5 @@
 -- `integers::floor_div` rounds down. Neither the quotient nor the quotient less 1 is further from 0 than x allows, so no bound on x is needed.
-use Rattle.std.proofs.Common.{◌≡◌, ℤ, pos, ◌-ℤ◌, ◌<ℤ◌, FitsSigned, to_z, of_z, w64}
+use Rattle.std.proofs.Common.{◌≡◌, ℤ, pos, ◌<ℤ◌, FitsSigned, to_z, of_z, w64}
 use lib.Signed.{quot_z, rem_z}
 use mir.Facts.{to_z-of_z}
 use Rattle.integers.proofs.Omega.{zarith}

@@ -2,7 +2,7 @@
 use Rattle.std.proofs.Common.{◌-◌, arith}
 use lib.Pow.{pow_pos}
 use Rattle.bits.proofs.Fields.{one_shl}
-use Rattle.bits.proofs.Pens.{Turn, joined-lt, begins, byte-lt, turns}
+use Rattle.bits.proofs.Pens.{joined-lt, begins, byte-lt, turns}
 use Rattle.bits.proofs.Pen.put.Goals as goal
 
 pub overflow_add-held : goal.overflow_add-held
