@@ -55,7 +55,7 @@ stands : {s : List ℕ} {at : ℕ} (text rest : List ℕ) → Stand s at (text +
 unfolding behind
 stands [] rest h = ap At (omega arith)
 stands {s} {at} (c ∷ text) rest h =
-    rw (lt-ltb at (length s) (within h), eq-eqb (get_or s at 0) c (here h)) (stands text rest (onward (c ∷ []) (text ++ rest) h) ∙ ap At (omega arith))
+    rw (lt-ltb at (length s) (within h), eq-eqb (get_or s at 0) c (here h)) (stands {at = at + 1} text rest (onward (c ∷ []) (text ++ rest) h) ∙ ap At (omega arith))
 
 absent : {s rest : List ℕ} {at c : ℕ} (d : ℕ) (text : List ℕ) → Stand s at (c ∷ rest) → eqb c d ≡ false → behind s at (d ∷ text) ≡ Absent
 unfolding behind
