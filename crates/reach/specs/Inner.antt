@@ -1,5 +1,5 @@
 -- Points inside a grid, as the theorems take them. Definitions only; no public promise cites them.
-use Rattle.std.specs.Prelude.{◌+◌, ℤ, ◌+ℤ◌, ◌≤ℤ◌}
+use Rattle.std.specs.Prelude.{◌+ℤ◌, ◌≤ℤ◌}
 use Rattle.geometry.specs.declared.Point.{Point}
 use Rattle.geometry.specs.Geometry.{Axis, x_of, y_of, z_of}
 use Rattle.grid.specs.declared.Grid.{Grid}
