@@ -2,9 +2,46 @@
 // command that runs them has to know goes to standard error, in lines.
 #![tactic(auto)]
 
+ghost use Rattle.std.specs.Prelude.{IsTrue, ◌<◌, length, take};
+ghost use Rattle.std.specs.Io.KnownBytes.{Appends, Consumes, IsAtEnd};
 ghost use Rattle.io.specs.Counts.{IsPrefixLen};
 
-use libc::{STDERR_FILENO, STDIN_FILENO, STDOUT_FILENO};
+use std::io::{Read, Stderr, Stdin, Stdout, Write};
+
+// The three streams that a program is given.
+pub trait Streams {
+    type Input: Read + Drop;
+
+    type Output: Write + Drop;
+
+    type Errors: Write + Drop;
+
+    fn input(&self) -> Self::Input;
+
+    fn output(&self) -> Self::Output;
+
+    fn errors(&self) -> Self::Errors;
+}
+
+impl Streams for HostRuntime {
+    type Input = Stdin;
+
+    type Output = Stdout;
+
+    type Errors = Stderr;
+
+    fn input(&self) -> Stdin {
+        self.stdin()
+    }
+
+    fn output(&self) -> Stdout {
+        self.stdout()
+    }
+
+    fn errors(&self) -> Stderr {
+        self.stderr()
+    }
+}
 
 // What was read: so many bytes at the start of the buffer, up to the end of the input or of the room for it. It is not whole
 // where a read failed.
@@ -15,24 +52,81 @@ pub struct Input {
 }
 
 // Reads standard input until it ends or buf is full. Where a read fails, it says UNREAD: what came before is no input.
-pub fn read_input(buf: &mut [u8]) -> Input
+pub fn read_input(rt: &impl Streams, buf: &mut [u8]) -> Input
     ensures { IsPrefixLen result.len buf.new }
+{
+    let input = fill(&mut rt.input(), buf);
+    if !input.whole {
+        put(&mut rt.errors(), b"UNREAD\n");
+    }
+    input
+}
+
+// Writes the first len bytes to standard output, and answers whether all were taken. Where not, it says LOST.
+pub fn send(rt: &impl Streams, out: &[u8], len: usize) -> bool {
+    let taken = write(&mut rt.output(), out, len);
+    if !taken {
+        put(&mut rt.errors(), b"LOST\n");
+    }
+    taken
+}
+
+// Writes the line of a refusal, the first len bytes, to standard output, and says it to the command too.
+pub fn refuse(rt: &impl Streams, out: &[u8], len: usize) {
+    if send(rt, out, len) {
+        say(rt, out, len);
+    }
+}
+
+// Says the first len bytes to the command.
+pub fn say(rt: &impl Streams, out: &[u8], len: usize) {
+    write(&mut rt.errors(), out, len);
+}
+
+// Says the place of an argument that is no number.
+pub fn say_number(rt: &impl Streams, place: usize) {
+    say_count(rt, b"NUMBER ", place);
+}
+
+// Says a word and a number.
+pub fn say_count(rt: &impl Streams, word: &[u8], n: usize) {
+    let mut to = rt.errors();
+    put(&mut to, word);
+    let _ = to.writeln(n);
+}
+
+// Says two numbers, behind what was said before them on the line.
+pub fn say_pair(rt: &impl Streams, a: usize, b: usize) {
+    let _ = rt.errors().write_fmt(a);
+    say_count(rt, b" ", b);
+}
+
+// Writes the first len bytes. No text has more bytes than its buffer.
+fn write<W: Write>(to: &mut W, out: &[u8], len: usize) -> bool {
+    if len <= out.len() {
+        return put(to, &out[..len]);
+    }
+    false
+}
+
+// Reads until the input ends, a read fails or buf is full. What is whole and leaves room has all of the input.
+fn fill<R: Read>(from: &mut R, buf: &mut [u8]) -> Input
+    ensures in_bounds { IsPrefixLen result.len buf.new }
+    ensures bytes { Consumes (R.remaining from.old) (R.remaining from.new) (take result.len buf.new) }
+    ensures end { IsTrue result.whole → result.len < length buf.new → IsAtEnd (R.remaining from.new) }
 {
     let mut done: usize = 0;
     while done < buf.len() {
-        let got = libc::read(STDIN_FILENO, &mut buf[done..]);
-        if got < 0 {
-            io::write_all(STDERR_FILENO, b"UNREAD\n");
-            return Input {
-                len: done,
-                whole: false,
-            };
+        match from.read(&mut buf[done..]) {
+            Ok(0) => break,
+            Ok(more) => done += more,
+            Err(_) => {
+                return Input {
+                    len: done,
+                    whole: false,
+                };
+            }
         }
-        let more = io::count(got, buf);
-        if more == 0 {
-            break;
-        }
-        done += more;
     }
     Input {
         len: done,
@@ -40,49 +134,16 @@ pub fn read_input(buf: &mut [u8]) -> Input
     }
 }
 
-// Writes the first len bytes to standard output, and answers whether all were taken. Where not, it says LOST.
-pub fn send(out: &[u8], len: usize) -> bool {
-    let taken = write(STDOUT_FILENO, out, len);
-    if !taken {
-        io::write_all(STDERR_FILENO, b"LOST\n");
+// Writes all bytes, and answers whether they were taken. It ends at the first write that fails or takes nothing.
+fn put<W: Write>(to: &mut W, bytes: &[u8]) -> bool
+    ensures { IsTrue result → Appends (W.contents to.old) (W.contents to.new) bytes.now }
+{
+    let mut done: usize = 0;
+    while done < bytes.len() {
+        match to.write(&bytes[done..]) {
+            Ok(0) | Err(_) => return false,
+            Ok(more) => done += more,
+        }
     }
-    taken
-}
-
-// Writes the line of a refusal, the first len bytes, to standard output, and says it to the command too.
-pub fn refuse(out: &[u8], len: usize) {
-    if send(out, len) {
-        say(out, len);
-    }
-}
-
-// Says the first len bytes to the command.
-pub fn say(out: &[u8], len: usize) {
-    write(STDERR_FILENO, out, len);
-}
-
-// Says the place of an argument that is no number.
-pub fn say_number(place: usize) {
-    say_count(b"NUMBER ", place);
-}
-
-// Says a word and a number.
-pub fn say_count(word: &[u8], n: usize) {
-    io::write_all(STDERR_FILENO, word);
-    io::print_decimal(STDERR_FILENO, n as u64);
-    io::write_all(STDERR_FILENO, b"\n");
-}
-
-// Says two numbers, behind what was said before them on the line.
-pub fn say_pair(a: usize, b: usize) {
-    io::print_decimal(STDERR_FILENO, a as u64);
-    say_count(b" ", b);
-}
-
-// Writes the first len bytes. No text has more bytes than its buffer.
-fn write(fd: i32, out: &[u8], len: usize) -> bool {
-    if len <= out.len() {
-        return io::write_all(fd, &out[..len]);
-    }
-    false
+    true
 }
