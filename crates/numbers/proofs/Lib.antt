@@ -1,5 +1,3 @@
--- Small numbers keep their value.
-mod Kept
 -- The numbers of a reading are small, and lead back to it.
 pub mod Readings
 pub mod Back

@@ -1,7 +1,7 @@
 -- Worked examples, by computation on the definitions: the numbers of a reading, in order; and a lent list with and without room for them. Assumes nothing.
-use mathlib.Core.List.{List, [], ◌∷◌}
+use mathlib.Core.List.{[], ◌∷◌}
 use mathlib.Core.Path.{◌≡◌, refl}
-use lib.IntN.{ℤ, pos}
+use lib.IntN.{pos}
 use lib.ListN.{replicate}
 use Rattle.geometry.specs.Geometry.{point, triangle}
 use Rattle.layout.specs.declared.Header.{Header}
