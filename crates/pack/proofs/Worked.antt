@@ -1,5 +1,4 @@
 -- Worked examples, by computation on the definitions: answers as printed in base sixteen. Assumes nothing.
-use mathlib.Core.List.{[], ◌∷◌}
 use mathlib.Core.Path.{◌≡◌, refl}
 use Rattle.refusal.specs.Limit.{gives, refused}
 use Rattle.pack.specs.Pack.{packed, packed_count}
