@@ -2,11 +2,12 @@
 // command that runs them has to know goes to standard error, in lines.
 #![tactic(auto)]
 
-ghost use Rattle.std.specs.Prelude.{IsTrue, ◌<◌, length, take};
+ghost use Rattle.std.specs.Prelude.{IsTrue, OnOk, ◌<◌, length, take};
 ghost use Rattle.std.specs.Io.KnownBytes.{Appends, Consumes, IsAtEnd};
 ghost use Rattle.io.specs.Counts.{IsPrefixLen};
 
-use std::io::{Read, Stderr, Stdin, Stdout, Write};
+use std::io::{self, ErrorKind, Read, Stderr, Stdin, Stdout, Write};
+use std::process::ExitCode;
 
 // The three streams that a program is given.
 pub trait Streams {
@@ -51,36 +52,57 @@ pub struct Input {
     pub whole: bool,
 }
 
+// Nobody reads standard output any more. The program ends at once then, and says nothing.
+#[derive(Clone, Copy)]
+pub struct Gone;
+
+// The status to end with: 0, or where nobody read the output any more that of a program which SIGPIPE ended.
+pub fn status(ended: Result<(), Gone>) -> ExitCode {
+    match ended {
+        Ok(()) => ExitCode::SUCCESS,
+        Err(Gone) => ExitCode::from(141),
+    }
+}
+
 // Reads standard input until it ends or buf is full. Where a read fails, it says UNREAD: what came before is no input.
 pub fn read_input(rt: &impl Streams, buf: &mut [u8]) -> Input
     ensures { IsPrefixLen result.len buf.new }
 {
     let input = fill(&mut rt.input(), buf);
     if !input.whole {
-        put(&mut rt.errors(), b"UNREAD\n");
+        let _ = put(&mut rt.errors(), b"UNREAD\n");
     }
     input
 }
 
 // Writes the first len bytes to standard output, and answers whether all were taken. Where not, it says LOST.
-pub fn send(rt: &impl Streams, out: &[u8], len: usize) -> bool {
-    let taken = write(&mut rt.output(), out, len);
-    if !taken {
-        put(&mut rt.errors(), b"LOST\n");
+pub fn send(rt: &impl Streams, out: &[u8], len: usize) -> Result<bool, Gone> {
+    match write(&mut rt.output(), out, len) {
+        Ok(()) => Ok(true),
+        Err(error) => lose(rt, error.kind()),
     }
-    taken
+}
+
+// What an error of this kind means for the output.
+fn lose(rt: &impl Streams, kind: ErrorKind) -> Result<bool, Gone> {
+    if kind == ErrorKind::BrokenPipe {
+        return Err(Gone);
+    }
+    let _ = put(&mut rt.errors(), b"LOST\n");
+    Ok(false)
 }
 
 // Writes the line of a refusal, the first len bytes, to standard output, and says it to the command too.
-pub fn refuse(rt: &impl Streams, out: &[u8], len: usize) {
-    if send(rt, out, len) {
+pub fn refuse(rt: &impl Streams, out: &[u8], len: usize) -> Result<(), Gone> {
+    if send(rt, out, len)? {
         say(rt, out, len);
     }
+    Ok(())
 }
 
 // Says the first len bytes to the command.
 pub fn say(rt: &impl Streams, out: &[u8], len: usize) {
-    write(&mut rt.errors(), out, len);
+    let _ = write(&mut rt.errors(), out, len);
 }
 
 // Says the place of an argument that is no number.
@@ -91,7 +113,7 @@ pub fn say_number(rt: &impl Streams, place: usize) {
 // Says a word and a number.
 pub fn say_count(rt: &impl Streams, word: &[u8], n: usize) {
     let mut to = rt.errors();
-    put(&mut to, word);
+    let _ = put(&mut to, word);
     let _ = to.writeln(n);
 }
 
@@ -102,11 +124,11 @@ pub fn say_pair(rt: &impl Streams, a: usize, b: usize) {
 }
 
 // Writes the first len bytes. No text has more bytes than its buffer.
-fn write<W: Write>(to: &mut W, out: &[u8], len: usize) -> bool {
+fn write<W: Write>(to: &mut W, out: &[u8], len: usize) -> io::Result<()> {
     if len <= out.len() {
         return put(to, &out[..len]);
     }
-    false
+    Err(io::Error::from(ErrorKind::InvalidInput))
 }
 
 // Reads until the input ends, a read fails or buf is full. What is whole and leaves room has all of the input.
@@ -134,16 +156,16 @@ fn fill<R: Read>(from: &mut R, buf: &mut [u8]) -> Input
     }
 }
 
-// Writes all bytes, and answers whether they were taken. It ends at the first write that fails or takes nothing.
-fn put<W: Write>(to: &mut W, bytes: &[u8]) -> bool
-    ensures { IsTrue result → Appends (W.contents to.old) (W.contents to.new) bytes.now }
+// Writes all bytes. It ends at the first write that fails or takes nothing.
+fn put<W: Write>(to: &mut W, bytes: &[u8]) -> io::Result<()>
+    ensures { OnOk result (Appends (W.contents to.old) (W.contents to.new) bytes.now) }
 {
     let mut done: usize = 0;
     while done < bytes.len() {
-        match to.write(&bytes[done..]) {
-            Ok(0) | Err(_) => return false,
-            Ok(more) => done += more,
+        match to.write(&bytes[done..])? {
+            0 => return Err(io::Error::from(ErrorKind::WriteZero)),
+            more => done += more,
         }
     }
-    true
+    Ok(())
 }
