@@ -1,7 +1,7 @@
 /*
  * Frame files for the drawing office and the service laptop: the calls of libdesk.a, for C99 and C++.
  *
- * `rt staticlib desk` proves the library and writes target/staticlib/libdesk.a. docs/FORMAT.md has the formats whole: the
+ * `tools/staticlib desk` proves the library and writes target/staticlib/libdesk.a. docs/FORMAT.md has the formats whole: the
  * file's bits, a scanner's PLY file, and what to do about each limit. A program may use this header and library beside
  * stall.h and libstall.a.
  *

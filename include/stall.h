@@ -1,7 +1,7 @@
 /*
  * Cells, steel and routes in a milking stall: the calls of libstall.a, for C99 and C++.
  *
- * `rt staticlib stall` proves the library and writes target/staticlib/libstall.a. docs/FORMAT.md has the formats whole: the
+ * `tools/staticlib stall` proves the library and writes target/staticlib/libstall.a. docs/FORMAT.md has the formats whole: the
  * file's bits, the map, when a cell is filled, routes, and what to do about each limit.
  *
  * Common to all calls

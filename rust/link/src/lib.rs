@@ -68,7 +68,7 @@ impl Archive {
         let shown = path.display();
         let bytes = fs::read(&path).map_err(|error| {
             format!(
-                "cannot read {shown} ({error}): build it first, for x86-64 by `rt staticlib {name}` at the root of the \
+                "cannot read {shown} ({error}): build it first, for x86-64 by `tools/staticlib {name}` at the root of the \
                  repository; or set {variable} to the folder that has it"
             )
         })?;
