@@ -1,8 +1,7 @@
 -- Worked examples, by computation on the definitions: the order of a grid's values, the writer's questions in turn, and the bytes behind a file and after a refusal.
 -- Assumes nothing.
-use mathlib.Core.List.{List, [], ◌∷◌, ◌++◌}
+use mathlib.Core.List.{List, [], ◌∷◌}
 use mathlib.Core.Path.{◌≡◌, refl}
-use Prim.Native.Nat.{ℕ}
 use lib.IntN.{ℤ, pos}
 use lib.ListN.{replicate}
 use Rattle.bits.specs.Field.{bytes_of}
