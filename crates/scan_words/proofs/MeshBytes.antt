@@ -57,7 +57,7 @@ unfolding lowest_first
 back zero v rest e h = omega arith
 back {s} {at} (suc n) v rest e h =
     let first : get_or s at 0 ≡ v % 256 = byte_at e in
-    let others : little_endian s (at + 1) n ≡ v / 256 = back n (v / 256) rest (further (v % 256 ∷ []) (lowest_first n (v / 256) ++ rest) 1 refl e) (omega (arith, pow-suc 256 n)) in
+    let others : little_endian s (at + 1) n ≡ v / 256 = back {at = at + 1} n (v / 256) rest (further (v % 256 ∷ []) (lowest_first n (v / 256) ++ rest) 1 refl e) (omega (arith, pow-suc 256 n)) in
     peel s at n ∙ omega arith
 
 -- ---- of a type
