@@ -5,9 +5,12 @@
 
 ghost use Rattle.std.specs.Prelude.{◌≤◌, ◌<◌, length};
 
+use console::{Gone, Streams};
 use frame_write::{GridValues, Written};
 use parse::Word;
 use refusal::Limit;
+use std::env::Env;
+use std::process::ExitCode;
 
 // How the arguments were read: each is a number, or the place of the first that is none.
 #[derive(Clone, Copy)]
@@ -17,27 +20,30 @@ enum Numbers {
 }
 
 // Lends the memory for the scanner's file: one byte more than the longest.
-fn main() {
+fn main(rt: HostRuntime) -> ExitCode {
     let mut ply = [0u8; 1048577];
-    lend(&mut ply);
+    console::status(lend(&rt, &mut ply))
 }
 
 // Lends the rest: the grid's values, and the longest frame file. A call keeps the long array out of the proof.
-fn lend(ply: &mut [u8; 1048577]) {
+fn lend(rt: &(impl Streams + Env), ply: &mut [u8; 1048577]) -> Result<(), Gone> {
     let mut numbers = [0i32; 7];
     let mut out = [0u8; 65532];
-    match read_numbers(&mut numbers) {
-        Numbers::Read => answer(ply, frame_write::grid_from(&numbers), &mut out),
-        Numbers::Wrong(place) => console::say_number(place),
+    match read_numbers(rt, &mut numbers) {
+        Numbers::Read => answer(rt, ply, frame_write::grid_from(&numbers), &mut out),
+        Numbers::Wrong(place) => {
+            console::say_number(rt, place);
+            Ok(())
+        }
     }
 }
 
 // Reads as many arguments as there is room for. A missing one says no number.
-fn read_numbers(numbers: &mut [i32]) -> Numbers {
+fn read_numbers(rt: &impl Env, numbers: &mut [i32]) -> Numbers {
     let mut i = 0;
     while i < numbers.len() {
         let place = i + 1;
-        if !keep(numbers, i, argument(place)) {
+        if !keep(numbers, i, argument(rt, place)) {
             return Numbers::Wrong(place);
         }
         i = place;
@@ -60,9 +66,11 @@ fn keep(numbers: &mut [i32], i: usize, x: i64) -> bool
 }
 
 // The number that an argument says. Where it says none, a number that no 32 bits hold.
-fn argument(place: usize) -> i64 {
+fn argument(rt: &impl Env, place: usize) -> i64 {
     let mut word = [0u8; 32];
-    let len = os::arg(place, &mut word);
+    let Ok(len) = rt.arg(place, &mut word) else {
+        return 2147483648;
+    };
     match parse::number_in(&word[..len]) {
         Word::Number(x) => x,
         Word::NoNumber => 2147483648,
@@ -70,48 +78,49 @@ fn argument(place: usize) -> i64 {
 }
 
 // Reads the scanner's file, and writes the frame file.
-fn answer(ply: &mut [u8], grid: GridValues, out: &mut [u8])
+fn answer(rt: &impl Streams, ply: &mut [u8], grid: GridValues, out: &mut [u8]) -> Result<(), Gone>
     requires { 64 ≤ length out.old }
 {
-    let input = console::read_input(ply);
+    let input = console::read_input(rt, ply);
     if !input.whole {
-        return;
+        return Ok(());
     }
     let len = input.len;
-    read(&ply[..len], grid, out);
+    read(rt, &ply[..len], grid, out)
 }
 
 // Writes the frame file, unless the scanner's file is too long.
-fn read(ply: &[u8], grid: GridValues, out: &mut [u8])
+fn read(rt: &impl Streams, ply: &[u8], grid: GridValues, out: &mut [u8]) -> Result<(), Gone>
     requires { 64 ≤ length out.old }
 {
     if 1048576 < ply.len() {
-        console::say(b"LONG\n", 5);
-        return;
+        console::say(rt, b"LONG\n", 5);
+        return Ok(());
     }
-    write(ply, grid, out);
+    write(rt, ply, grid, out)
 }
 
 // Writes the frame file, or says the limit that is broken. A header has 12 bytes, and a record 16.
-fn write(ply: &[u8], grid: GridValues, out: &mut [u8])
+fn write(rt: &impl Streams, ply: &[u8], grid: GridValues, out: &mut [u8]) -> Result<(), Gone>
     requires { 64 ≤ length out.old }
 {
     match scan::scan(ply, grid, out) {
         Written::Length(len) => {
-            if console::send(out, len) {
-                console::say_count(b"TRIANGLES ", len / 16);
-                console::say_count(b"BYTES ", len);
+            if console::send(rt, out, len)? {
+                console::say_count(rt, b"TRIANGLES ", len / 16);
+                console::say_count(rt, b"BYTES ", len);
             }
         }
-        Written::Refused(limit) => say_refusal(limit, out),
+        Written::Refused(limit) => say_refusal(rt, limit, out),
     }
+    Ok(())
 }
 
 // Says the line of a refusal to the command.
-fn say_refusal(limit: Limit, out: &mut [u8])
+fn say_refusal(rt: &impl Streams, limit: Limit, out: &mut [u8])
     requires { 64 ≤ length out.old }
 {
     let refusal = limit.refusal();
     let line = text::put_refused(out, refusal.number as usize, refusal.place);
-    console::say(out, line);
+    console::say(rt, out, line);
 }
