@@ -144,6 +144,7 @@ module _ {g : Strides} {t : Triangle} {l : Lattice} {r : BoxRange} {cells : ℕ}
       where
         truth : (b : Bool) → T b → b ≡ true
         truth true h = refl
+        truth false h = elim h [ ]
 
     row_is : (i j k : ℕ) → i < g.nu → j < g.nv → k < g.nw → (one_column r.x.first r.y.first i j && in_run r.z i j k) ≡ rule i j k
     row_is i j k hi hj hk =

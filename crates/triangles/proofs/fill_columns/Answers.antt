@@ -4,7 +4,6 @@ use mathlib.Core.Path.{◌≡◌, ap, ◌∙◌, subst, subst₂}
 use Prim.Native.Nat.{ℕ, ◌^◌}
 use lib.Dec.{lit<}
 use lib.IntN.{ℤ}
-use lib.ListN.{length}
 use mir.Syntax.{w64}
 use mir.Val.{to_z, of_z}
 use mir.Facts.{to_z-of_z}
@@ -16,7 +15,6 @@ use Rattle.geometry.specs.Bounds.{normal_max, each, PointWithin}
 use Rattle.forms.proofs.Sizes.{normal-within}
 use Rattle.placed.specs.declared.Placed.{Placed}
 use Rattle.placed.specs.Placed.{placed_in, turn_placed}
-use Rattle.triangles.specs.Add.{AddsTriangle}
 use Rattle.triangles.specs.View.{PlacedReady, PlacedAdds}
 use Rattle.triangles.proofs.Ways.{placed-ready, placed-adds, ready_turned, adds-turned}
 use Rattle.triangles.proofs.fill_columns.Goals as goal
@@ -34,7 +32,7 @@ module _ {step extent : ℤ} (step-is : m step ≡ step) (extent-is : m extent �
 
 -- the normal of a placed triangle
 ins : {q r : Placed} {step extent : ℤ} {bytes : ℕ} → r ≡ q → PlacedReady q step extent bytes → let n = r.n in Withins (each normal_max 3 []) (n.x ∷ n.y ∷ n.z ∷ [])
-ins {q} {r} e ready = let h : PointWithin normal_max r.n = rw e (normal-within ready.within) in (h.x, (h.y, (h.z, tt)))
+ins {q} {r} e ready = let h : PointWithin normal_max r.n = rw (e, ready.normal-is) (normal-within ready.within) in (h.x, (h.y, (h.z, tt)))
 
 pub place-p-requires : goal.place-p-requires
 place-p-requires c = let p = c.requires in (p.0.grid.x.most, p.0.grid.y.most, p.0.grid.boxes, p.1)
