@@ -5,7 +5,7 @@
 use mathlib.Core.Bool.{Bool, true, false, cond, ◌||◌, or-false}
 use mathlib.Core.List.{List, [], ◌∷◌}
 use mathlib.Core.Path.{◌≡◌, refl, ap, ap₂, ◌∙◌}
-use Prim.Native.Nat.{ℕ, zero, suc, ◌<◌}
+use Prim.Native.Nat.{ℕ, zero, suc}
 use Rattle.refusal.specs.Limit.{gives}
 use Rattle.refusal.proofs.Asking.{asked-given}
 use Rattle.grid.specs.Grid.{lattice_of}
