@@ -55,6 +55,7 @@ module _ {A : Type 0} (p : A → Bool) (P : A → Type 0) where
 
   some-any : ((x : A) → P x → p x ≡ true) → (xs : List A) → SomeOf P xs → any_of p xs ≡ true
   unfolding any_of
+  some-any f [] h = elim h [ ]
   some-any f (x ∷ xs) (inl h) = rw (f x h)
   some-any f (x ∷ xs) (inr h) = rw (some-any f xs h) (or-true (p x))
     where
@@ -130,6 +131,7 @@ module _ (g : Grid) (ts : List Triangle) (ps : List Point) (filled : ℕ → Boo
   common-reach : {m : ℕ} → m < leg_count ps → ((n : ℕ) → BothReach g ts ps m n → ⊥) → (us : List Triangle)
       → ((n : ℕ) → SomeOf (λ t. Reaches t (corner_of g n) g.edge) us → SomeOf (λ t. Reaches t (corner_of g n) g.edge) ts)
       → SomeOf (λ t. CommonPoint (point_at ps m) (point_at ps (m + 1)) t) us → ⊥
+  common-reach {m = m} lm never [] among h = elim h [ ]
   common-reach {m} lm never (u ∷ us) among (inl p) =
       let c = common-cell g (point_at ps m) (point_at ps (m + 1)) u proper (points m (omega arith)) (points (m + 1) (omega arith)) p in
       let n = cell_number g.nx g.ny c.i c.j c.k in

@@ -9,7 +9,7 @@
 --     reached-one    a leg reaches one filled cell first: the claim about the cell that is named holds of no other
 -- Assumes nothing.
 use mathlib.Core.Bool.{Bool}
-use mathlib.Core.List.{List, ◌∷◌}
+use mathlib.Core.List.{List, [], ◌∷◌}
 use mathlib.Core.Logic.{◌⊎◌, inl, inr}
 use mathlib.Core.Path.{◌≡◌, refl}
 use Prim.Native.Nat.{ℕ, ◌+◌, ◌<◌}
@@ -37,6 +37,7 @@ pub after-fill : (s old : List ℕ) (count : ℕ) (ns : List ℤ) (f : Finding) 
 after-fill s old count ns f e r = demand-3 s (filled_bytes s old) ns f r (fill-leaves s old count e)
 
 some_more : {A : Type 0} {P Q : A → Type 0} → ((x : A) → P x → Q x) → (xs : List A) → SomeOf P xs → SomeOf Q xs
+some_more f [] h = elim h [ ]
 some_more f (x ∷ xs) (inl p) = inl (f x p)
 some_more f (x ∷ xs) (inr r) = inr (some_more f xs r)
 

@@ -2,7 +2,7 @@
 use mathlib.Core.Bool.{true, false}
 use mathlib.Core.List.{List, [], ◌∷◌, ◌++◌}
 use mathlib.Core.Path.{◌≡◌, refl}
-use Prim.Native.Nat.{ℕ, ◌*◌}
+use Prim.Native.Nat.{ℕ}
 use lib.IntN.{ℤ, pos}
 use lib.ListN.{replicate}
 use Rattle.bits.specs.Field.{bit_at, field_at, signed_at}
@@ -12,7 +12,7 @@ use Rattle.refusal.specs.Questions.{answered, of_each}
 use Rattle.grid.specs.Grid.{inside}
 use Rattle.map.specs.Map.{tabulate}
 use Rattle.layout.specs.Values.{header_in, reserved_in, kind_in}
-use Rattle.demand.specs.Route.{points_of, point_at, leg_count, count_fits, route_answer}
+use Rattle.demand.specs.Route.{points_of, leg_count, count_fits, route_answer}
 
 -- ---- points and legs
 pub three-points : points_of (pos 1 ∷ pos 2 ∷ pos 3 ∷ pos 4 ∷ pos 5 ∷ pos 6 ∷ pos 7 ∷ pos 8 ∷ pos 9 ∷ [])

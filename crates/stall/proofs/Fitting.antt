@@ -59,8 +59,8 @@ module _ (s : List ℕ) where
   reading-fits i = answered-fits FitsAlways _ (file_questions s) (file-fits s) tt
 
   -- a call that puts these questions and gives a small number
-  count_fits : (len : ℕ) {n : ℕ} → n < 2 ^ 32 → Fits FitsCount (answered (fill_questions s len) n)
-  count_fits len = answered-fits FitsCount _ (fill_questions s len) (fill-fits len)
+  count-fits : (len : ℕ) {n : ℕ} → n < 2 ^ 32 → Fits FitsCount (answered (fill_questions s len) n)
+  count-fits len = answered-fits FitsCount _ (fill_questions s len) (fill-fits len)
 
   count-lt : h.count < 4096
   count-lt = (header-bounded version1 version1-usable s).count
@@ -70,19 +70,19 @@ module _ (s : List ℕ) where
 
   pub beginning-fits : (m : List ℕ) → Fits FitsCount (beginning s m)
   unfolding beginning
-  beginning-fits m = count_fits (length m) (omega (arith, count-lt))
+  beginning-fits m = count-fits (length m) (omega (arith, count-lt))
 
   pub joining-fits : (m : List ℕ) (first count : ℕ) → Fits FitsCount (joining s m first count)
   unfolding joining
-  joining-fits m first count = count_fits (length m) (omega (arith, count-lt, present-most h.count first count))
+  joining-fits m first count = count-fits (length m) (omega (arith, count-lt, present-most h.count first count))
 
   pub ending-fits : (m : List ℕ) → Fits FitsCount (ending s m)
   unfolding ending
-  ending-fits m = count_fits (length m) (few-filled (is_filled m))
+  ending-fits m = count-fits (length m) (few-filled (is_filled m))
 
   pub filling-fits : (m : List ℕ) → Fits FitsCount (filling s m)
   unfolding filling
-  filling-fits m = count_fits (length m) (few-filled (filled_in s))
+  filling-fits m = count-fits (length m) (few-filled (filled_in s))
 
 finding-fits : (filled : ℕ → Bool) (g : Grid) (ps : List Point) → length ps ≤ 64 → cell_count g ≤ 64 * 64 * 64 → FitsFinding (tested filled g ps)
 finding-fits filled g ps few-points few-cells = go (tested filled g ps) refl
