@@ -2,7 +2,5 @@
 mod Numbers
 -- Routes of too many points.
 mod TooMany
--- What the walks by hand share.
-mod Callees
 -- A worked example.
 pub mod Worked

@@ -27,7 +27,8 @@ pub fn test_points(file: &[u8], map: &[u8], points: &[Point]) -> RouteAnswer
     let mut numbers = [0i16; 195];
     let mut i = 0;
     while i < count {
-        numbers = with_point(numbers, i, points[i]);
+        let next = with_point(numbers, i, points[i]);
+        numbers = next;
         i = i + 1;
     }
     test_copied(file, map, numbers, count)
