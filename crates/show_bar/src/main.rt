@@ -5,8 +5,11 @@
 
 ghost use Rattle.std.specs.Prelude.{◌≤◌, length};
 
+use console::{Gone, Streams};
 use parse::Word;
 use service::BarAnswer;
+use std::env::Env;
+use std::process::ExitCode;
 
 // What is asked for: a cell by its number, or nothing, where the argument says none.
 #[derive(Clone, Copy)]
@@ -16,19 +19,24 @@ enum Asked {
 }
 
 // Lends the memory: one byte more than the longest file that can be accepted, and text.
-fn main() {
+fn main(rt: HostRuntime) -> ExitCode {
     let mut file = [0u8; 65533];
-    let mut out = io::buffer();
-    match argument() {
-        Asked::Cell(cell) => answer(&mut file, cell, &mut out),
-        Asked::Nothing => console::say_number(1),
+    let mut out = [0u8; 4096];
+    match argument(&rt) {
+        Asked::Cell(cell) => console::status(answer(&rt, &mut file, cell, &mut out)),
+        Asked::Nothing => {
+            console::say_number(&rt, 1);
+            ExitCode::SUCCESS
+        }
     }
 }
 
 // Reads the argument. Where it is missing or too long, it says no number.
-fn argument() -> Asked {
+fn argument(rt: &impl Env) -> Asked {
     let mut word = [0u8; 32];
-    let len = os::arg(1, &mut word);
+    let Ok(len) = rt.arg(1, &mut word) else {
+        return Asked::Nothing;
+    };
     match parse::number_in(&word[..len]) {
         Word::Number(x) => cell_of(x),
         Word::NoNumber => Asked::Nothing,
@@ -47,36 +55,38 @@ fn cell_of(x: i64) -> Asked {
 }
 
 // Reads the file, and tells of the cell.
-fn answer(file: &mut [u8], cell: usize, out: &mut [u8])
+fn answer(rt: &impl Streams, file: &mut [u8], cell: usize, out: &mut [u8]) -> Result<(), Gone>
     requires { 512 ≤ length out.old }
 {
-    let input = console::read_input(file);
+    let input = console::read_input(rt, file);
     if !input.whole {
-        return;
+        return Ok(());
     }
     let len = input.len;
-    tell(&file[..len], cell, out);
+    tell(rt, &file[..len], cell, out)
 }
 
 // Looks for the bar behind the cell, and writes the answer.
-fn tell(file: &[u8], cell: usize, out: &mut [u8])
+fn tell(rt: &impl Streams, file: &[u8], cell: usize, out: &mut [u8]) -> Result<(), Gone>
     requires { 512 ≤ length out.old }
 {
     match service::behind(file, cell) {
         BarAnswer::Clear => {
             let line = bar_line::put_clear(out);
-            console::send(out, line);
+            console::send(rt, out, line)?;
+            Ok(())
         }
         BarAnswer::Bar(i, w) => {
             let line = bar_line::put_bar(out, i);
-            if console::send(out, line) {
+            if console::send(rt, out, line)? {
                 let lines = bar_line::put_behind(out, file, cell, i, w);
-                console::say(out, lines);
+                console::say(rt, out, lines);
             }
+            Ok(())
         }
         BarAnswer::Refused(limit) => {
             let line = listing::put_refusal(limit, out);
-            console::refuse(out, line);
+            console::refuse(rt, out, line)
         }
     }
 }

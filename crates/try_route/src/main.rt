@@ -5,9 +5,12 @@
 
 ghost use Rattle.std.specs.Prelude.{◌≤◌, ◌<◌, length};
 
+use console::{Gone, Streams};
 use parse::Word;
 use route::RouteAnswer;
 use service::BarAnswer;
+use std::env::{Env, FillError};
+use std::process::ExitCode;
 
 // How the arguments were read: so many numbers, or the place of the first that is none.
 #[derive(Clone, Copy)]
@@ -18,27 +21,31 @@ enum Numbers {
 
 // Lends the memory: one byte more than the longest file that can be accepted, the largest map, the numbers of one point
 // more than a route may have, and text.
-fn main() {
+fn main(rt: HostRuntime) -> ExitCode {
     let mut file = [0u8; 65533];
     let mut map = [0u8; 32768];
     let mut numbers = [0i16; 195];
-    let mut out = io::buffer();
-    match read_numbers(&mut numbers) {
-        Numbers::Read(count) => answer(&mut file, &mut map, &numbers, count, &mut out),
-        Numbers::Wrong(place) => console::say_number(place),
+    let mut out = [0u8; 4096];
+    match read_numbers(&rt, &mut numbers) {
+        Numbers::Read(count) => {
+            console::status(answer(&rt, &mut file, &mut map, &numbers, count, &mut out))
+        }
+        Numbers::Wrong(place) => {
+            console::say_number(&rt, place);
+            ExitCode::SUCCESS
+        }
     }
 }
 
 // Reads the arguments, as many as there is room for: more are refused as too many points are.
-fn read_numbers(numbers: &mut [i16]) -> Numbers {
-    let given = os::arg_count();
+fn read_numbers(rt: &impl Env, numbers: &mut [i16]) -> Numbers {
     let mut i = 0;
     while i < numbers.len() {
         let place = i + 1;
-        if given <= place {
+        let Some(x) = argument(rt, place) else {
             return Numbers::Read(i);
-        }
-        if !keep(numbers, i, argument(place)) {
+        };
+        if !keep(numbers, i, x) {
             return Numbers::Wrong(place);
         }
         i = place;
@@ -60,47 +67,71 @@ fn keep(numbers: &mut [i16], i: usize, x: i64) -> bool
     true
 }
 
-// The number that an argument says. Where it says none, a number that no 16 bits hold.
-fn argument(place: usize) -> i64 {
+// The number that an argument says, where there is one. Where it says none, a number that no 16 bits hold.
+fn argument(rt: &impl Env, place: usize) -> Option<i64> {
     let mut word = [0u8; 32];
-    let len = os::arg(place, &mut word);
-    match parse::number_in(&word[..len]) {
+    match rt.arg(place, &mut word) {
+        Ok(len) => Some(number_of(&word[..len])),
+        Err(FillError::TooLong) => Some(32768),
+        Err(FillError::NotPresent) => None,
+    }
+}
+
+// The number that a word says. Where it says none, a number that no 16 bits hold.
+fn number_of(word: &[u8]) -> i64 {
+    match parse::number_in(word) {
         Word::Number(x) => x,
         Word::NoNumber => 32768,
     }
 }
 
 // Reads the file, and tells of the route of the first `count` numbers.
-fn answer(file: &mut [u8], map: &mut [u8], numbers: &[i16], count: usize, out: &mut [u8])
+fn answer(
+    rt: &impl Streams,
+    file: &mut [u8],
+    map: &mut [u8],
+    numbers: &[i16],
+    count: usize,
+    out: &mut [u8],
+) -> Result<(), Gone>
     requires { 512 ≤ length out.old }
 {
-    let input = console::read_input(file);
+    let input = console::read_input(rt, file);
     if !input.whole {
-        return;
+        return Ok(());
     }
     let len = input.len;
-    tell(&file[..len], map, numbers, count, out);
+    tell(rt, &file[..len], map, numbers, count, out)
 }
 
 // Fills the map, tests the route, and writes the answer. Where the file is refused, the test says so too.
-fn tell(file: &[u8], map: &mut [u8], numbers: &[i16], count: usize, out: &mut [u8])
+fn tell(
+    rt: &impl Streams,
+    file: &[u8],
+    map: &mut [u8],
+    numbers: &[i16],
+    count: usize,
+    out: &mut [u8],
+) -> Result<(), Gone>
     requires { 512 ≤ length out.old }
 {
     fill::fill(file, map);
     match test(file, map, numbers, count) {
         RouteAnswer::Free => {
             let line = text::put_free(out);
-            console::send(out, line);
+            console::send(rt, out, line)?;
+            Ok(())
         }
         RouteAnswer::Blocked(leg, cell) => {
             let line = text::put_blocked(out, leg, cell);
-            if console::send(out, line) {
-                say_bar(file, cell, out);
+            if console::send(rt, out, line)? {
+                say_bar(rt, file, cell, out);
             }
+            Ok(())
         }
         RouteAnswer::Refused(limit) => {
             let line = listing::put_refusal(limit, out);
-            console::refuse(out, line);
+            console::refuse(rt, out, line)
         }
     }
 }
@@ -114,13 +145,13 @@ fn test(file: &[u8], map: &[u8], numbers: &[i16], count: usize) -> RouteAnswer {
 }
 
 // Says the bar behind a filled cell: where the cell is, the triangle that reaches it, and a point of it there.
-fn say_bar(file: &[u8], cell: usize, out: &mut [u8])
+fn say_bar(rt: &impl Streams, file: &[u8], cell: usize, out: &mut [u8])
     requires { 512 ≤ length out.old }
 {
     match service::behind(file, cell) {
         BarAnswer::Bar(i, w) => {
             let lines = bar_line::put_behind(out, file, cell, i, w);
-            console::say(out, lines);
+            console::say(rt, out, lines);
         }
         BarAnswer::Clear => {}
         BarAnswer::Refused(_) => {}
