@@ -15,12 +15,12 @@
 
 mod text;
 
-ghost use Rattle.std.specs.Prelude.{◌≡◌, ◌<◌, ◌≤◌, length};
+ghost use Rattle.std.specs.Prelude.{◌≡◌, ◌<◌, ◌≤◌, length, IfOk};
 
-use bytes::scan::find;
-use libc::STDIN_FILENO;
 use points::Point;
 use route::RouteAnswer;
+use std::io::{self, Read};
+use text::find;
 
 // How many bytes the frame file and the buffer have.
 #[derive(Clone, Copy)]
@@ -30,12 +30,26 @@ struct Held {
 }
 
 // Reads the cases, and runs them. The room for a file and for a map is more than the longest file and the largest map.
-pub fn run() {
+pub fn run(rt: &(impl Input + Print)) -> io::Result<()> {
     let mut text = room();
-    let len = io::read_full(STDIN_FILENO, &mut text);
-    let mut file = io::large_buffer();
-    let mut map = io::large_buffer();
-    run_lines(&text[..len], &mut file, &mut map);
+    let len = read_full(&mut rt.reader(), &mut text)?;
+    let mut file = [0u8; 65536];
+    let mut map = [0u8; 65536];
+    run_lines(rt, &text[..len], &mut file, &mut map)
+}
+
+// Reads until the input ends or buf is full, and answers how many bytes there are. A read that fails is no end.
+fn read_full<R: Read>(from: &mut R, buf: &mut [u8]) -> io::Result<usize>
+    ensures { IfOk result (λ len. len ≤ length buf.new) }
+{
+    let mut done = 0;
+    while done < buf.len() {
+        match from.read(&mut buf[done..])? {
+            0 => break,
+            more => done += more,
+        }
+    }
+    Ok(done)
 }
 
 // Room for the text of the cases.
@@ -46,67 +60,80 @@ fn room() -> [u8; 262144]
 }
 
 // Runs each line in turn.
-fn run_lines(text: &[u8], file: &mut [u8], map: &mut [u8]) {
+fn run_lines(rt: &impl Print, text: &[u8], file: &mut [u8], map: &mut [u8]) -> io::Result<()> {
     let mut held = Held { file: 0, map: 0 };
     let mut at = 0;
     while at < text.len() {
-        let end = find(text, at, text.len(), b'\n');
-        held = run_line(&text[at..end], file, map, held);
+        let end = find(text, at, b'\n');
+        held = run_line(rt, &text[at..end], file, map, held)?;
         at = end + 1;
     }
+    Ok(())
 }
 
 // Runs a line: it changes the file or the buffer, or puts a question.
-fn run_line(line: &[u8], file: &mut [u8], map: &mut [u8], held: Held) -> Held {
+fn run_line(
+    rt: &impl Print,
+    line: &[u8],
+    file: &mut [u8],
+    map: &mut [u8],
+    held: Held,
+) -> io::Result<Held> {
     let name = text::behind(text::before(line, b':'), b' ');
     let values = text::behind(line, b':');
     match text::letter(line) {
-        b'#' => held,
-        b'g' => Held {
+        b'#' => Ok(held),
+        b'g' => Ok(Held {
             file: text::put_bytes(values, 1, file, 0),
             map: held.map,
-        },
-        b'a' => Held {
+        }),
+        b'a' => Ok(Held {
             file: text::put_bytes(values, text::number(name), file, held.file),
             map: held.map,
-        },
-        b'n' => Held {
+        }),
+        b'n' => Ok(Held {
             file: put_noise(text::number(name), file, held.file),
             map: held.map,
-        },
-        b'b' => Held {
+        }),
+        b'b' => Ok(Held {
             file: held.file,
             map: text::put_bytes(values, text::number(name), map, 0),
-        },
+        }),
         letter => {
-            report::begin(name);
+            report::begin(rt, name)?;
             let lent = text::first_mut(map, held.map);
-            ask(letter, values, text::first(file, held.file), lent);
-            report::end();
-            held
+            ask(rt, letter, values, text::first(file, held.file), lent)?;
+            report::end(rt)?;
+            Ok(held)
         }
     }
 }
 
 // Puts a question, and prints the answer.
-fn ask(letter: u8, values: &[u8], file: &[u8], map: &mut [u8]) {
+fn ask(rt: &impl Print, letter: u8, values: &[u8], file: &[u8], map: &mut [u8]) -> io::Result<()> {
     match letter {
-        b'r' => report::reading(frame::read(file, text::number(values))),
-        b't' => report::route(answer(values, file, map)),
-        b'p' => ask_points(values, file, map),
-        _ => ask_fill(letter, values, file, map),
+        b'r' => report::reading(rt, frame::read(file, text::number(values))),
+        b't' => report::route(rt, answer(values, file, map)),
+        b'p' => ask_points(rt, values, file, map),
+        _ => ask_fill(rt, letter, values, file, map),
     }
 }
 
 // Fills the buffer, and prints the answer and what the buffer then has.
-fn ask_fill(letter: u8, values: &[u8], file: &[u8], map: &mut [u8]) {
-    report::filling(fill::fill(file, map));
+fn ask_fill(
+    rt: &impl Print,
+    letter: u8,
+    values: &[u8],
+    file: &[u8],
+    map: &mut [u8],
+) -> io::Result<()> {
+    report::filling(rt, fill::fill(file, map))?;
     match letter {
-        b'f' => report::bytes(map),
-        b's' => report::labelled(b" SUM", digest(map, 31, 1000003)),
+        b'f' => report::bytes(rt, map),
+        b's' => report::labelled(rt, b" SUM", digest(map, 31, 1000003)),
         _ => {
-            report::labelled(b" MAP", digest(map, 257, 4294967291));
-            report::labelled(b" ROUTES", digest_routes(values, file, map));
+            report::labelled(rt, b" MAP", digest(map, 257, 4294967291))?;
+            report::labelled(rt, b" ROUTES", digest_routes(values, file, map))
         }
     }
 }
@@ -119,11 +146,14 @@ fn answer(values: &[u8], file: &[u8], map: &[u8]) -> RouteAnswer {
 }
 
 // Tests the route of the first of 128 points by value.
-fn ask_points(values: &[u8], file: &[u8], map: &[u8]) {
+fn ask_points(rt: &impl Print, values: &[u8], file: &[u8], map: &[u8]) -> io::Result<()> {
     let count = text::number(text::before(values, b','));
     let mut numbers = [0i16; 384];
     text::put_numbers(text::behind(values, b','), &mut numbers);
-    report::route(points::test_first_points(file, map, points_of(&numbers), count));
+    report::route(
+        rt,
+        points::test_first_points(file, map, points_of(&numbers), count),
+    )
 }
 
 // The numbers as points, three for each.
@@ -188,7 +218,7 @@ fn digest_routes(routes: &[u8], file: &[u8], map: &[u8]) -> u64 {
     let mut sum = 0;
     let mut at = 0;
     while at < routes.len() {
-        let end = find(routes, at, routes.len(), b',');
+        let end = find(routes, at, b',');
         sum = with_answer(sum, answer(&routes[at..end], file, map));
         at = end + 1;
     }

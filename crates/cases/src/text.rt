@@ -2,24 +2,35 @@
 //     test to 9 9 0: 0 0 0 9 9 0
 //     again 4094: 00150014005005400500140150014005
 // Values are numbers in decimal, `192x5` for 192 times the number 5, or bytes in hexadecimal with blanks between them.
-ghost use Rattle.std.specs.Prelude.{◌<◌, ◌≤◌};
-
-use bytes::scan::find;
+ghost use Rattle.std.specs.Prelude.{◌<◌, ◌≤◌, length};
 
 // The first letter of a line. An empty line is taken as a comment.
 pub(crate) fn letter(line: &[u8]) -> u8 {
     if 0 < line.len() { line[0] } else { b'#' }
 }
 
+// The first place of a byte in a text from `at` on, or the text's end, where there is none.
+pub(crate) fn find(text: &[u8], at: usize, byte: u8) -> usize
+    requires { at ≤ length text.now }
+    ensures { (at ≤ result) × (result ≤ length text.now) }
+{
+    for i in at..text.len() {
+        if text[i] == byte {
+            return i;
+        }
+    }
+    text.len()
+}
+
 // What stands before the first `mark` of a text: all, where there is none.
 pub(crate) fn before(text: &[u8], mark: u8) -> &[u8] {
-    let end = find(text, 0, text.len(), mark);
+    let end = find(text, 0, mark);
     &text[0..end]
 }
 
 // What stands behind the first `mark` of a text: nothing, where there is none.
 pub(crate) fn behind(text: &[u8], mark: u8) -> &[u8] {
-    let end = find(text, 0, text.len(), mark);
+    let end = find(text, 0, mark);
     let start = lesser(end + 1, text.len());
     &text[start..]
 }
@@ -127,7 +138,7 @@ pub(crate) fn put_numbers(text: &[u8], out: &mut [i16]) -> usize {
     let mut count = 0;
     let mut at = 0;
     while at < text.len() {
-        let end = find(text, at, text.len(), b' ');
+        let end = find(text, at, b' ');
         count = put_word(&text[at..end], out, count);
         at = end + 1;
     }
@@ -136,7 +147,7 @@ pub(crate) fn put_numbers(text: &[u8], out: &mut [i16]) -> usize {
 
 // Puts the number of a word into `out` from `at` on, as often as the word says, and answers where it ends.
 fn put_word(word: &[u8], out: &mut [i16], at: usize) -> usize {
-    let x = find(word, 0, word.len(), b'x');
+    let x = find(word, 0, b'x');
     if word.len() == 0 {
         return at;
     }
@@ -160,7 +171,7 @@ fn repeat(value: i16, times: usize, out: &mut [i16], at: usize) -> usize {
 // The number of a word, which may have a minus sign.
 fn signed(word: &[u8]) -> i16 {
     let size = number(word) % 65536;
-    if find(word, 0, word.len(), b'-') < word.len() {
+    if find(word, 0, b'-') < word.len() {
         negative(size)
     } else {
         (size % 32768) as i16

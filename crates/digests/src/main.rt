@@ -3,6 +3,8 @@
 // that was made apart: `compare cases` and `compare digest` of rust/compare print them.
 #![tactic(auto)]
 
-fn main() {
-    cases::run();
+use std::io;
+
+fn main(rt: HostRuntime) -> io::Result<()> {
+    cases::run(&rt)
 }

@@ -1,6 +1,8 @@
 // Reads, fills and tests the worked frames and others. Standard input has the cases, as the crate `cases` says.
 #![tactic(auto)]
 
-fn main() {
-    cases::run();
+use std::io;
+
+fn main(rt: HostRuntime) -> io::Result<()> {
+    cases::run(&rt)
 }

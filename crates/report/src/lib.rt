@@ -6,123 +6,111 @@ use fill::Filling;
 use frame::Reading;
 use geometry::Point;
 use layout::{Header, Record};
-use libc::STDOUT_FILENO;
 use refusal::Limit;
 use route::RouteAnswer;
+use std::io;
 
 // Begins the line of a case: its name and a colon.
-pub fn begin(name: &[u8]) {
-    io::write_all(STDOUT_FILENO, name);
-    io::write_all(STDOUT_FILENO, b":");
+pub fn begin(rt: &impl Print, name: &[u8]) -> io::Result<()> {
+    rt.write_all(name)?;
+    rt.write_all(b":")
 }
 
 // Ends the line of a case.
-pub fn end() {
-    io::write_all(STDOUT_FILENO, b"\n");
+pub fn end(rt: &impl Print) -> io::Result<()> {
+    rt.write_all(b"\n")
 }
 
 // What reading a record answered: the header and the record, the header alone, or a refusal.
-pub fn reading(answer: Reading) {
+pub fn reading(rt: &impl Print, answer: Reading) -> io::Result<()> {
     match answer {
-        Reading::Refused(limit) => refusal(limit),
+        Reading::Refused(limit) => refusal(rt, limit),
         Reading::NoRecord(header) => {
-            show_header(header);
-            io::write_all(STDOUT_FILENO, b" NO RECORD");
+            show_header(rt, header)?;
+            rt.write_all(b" NO RECORD")
         }
         Reading::Found(header, record) => {
-            show_header(header);
-            show_record(record);
+            show_header(rt, header)?;
+            show_record(rt, record)
         }
     }
 }
 
 // What a fill answered: how many cells are filled, or a refusal.
-pub fn filling(answer: Filling) {
+pub fn filling(rt: &impl Print, answer: Filling) -> io::Result<()> {
     match answer {
-        Filling::Filled(count) => labelled(b" FILLED", count as u64),
-        Filling::Refused(limit) => refusal(limit),
+        Filling::Filled(count) => labelled(rt, b" FILLED", count as u64),
+        Filling::Refused(limit) => refusal(rt, limit),
     }
 }
 
 // What a route test answered: free, the leg and the cell that block it, or a refusal.
-pub fn route(answer: RouteAnswer) {
+pub fn route(rt: &impl Print, answer: RouteAnswer) -> io::Result<()> {
     match answer {
-        RouteAnswer::Free => {
-            io::write_all(STDOUT_FILENO, b" FREE");
-        }
+        RouteAnswer::Free => rt.write_all(b" FREE"),
         RouteAnswer::Blocked(leg, cell) => {
-            labelled(b" BLOCKED", leg as u64);
-            natural(cell as u64);
+            labelled(rt, b" BLOCKED", leg as u64)?;
+            natural(rt, cell as u64)
         }
-        RouteAnswer::Refused(limit) => refusal(limit),
+        RouteAnswer::Refused(limit) => refusal(rt, limit),
     }
 }
 
 // A refusal: the number of the first limit broken, and the place.
-fn refusal(limit: Limit) {
+fn refusal(rt: &impl Print, limit: Limit) -> io::Result<()> {
     let said = limit.refusal();
-    labelled(b" REFUSED", said.number as u64);
-    natural(said.place as u64);
+    labelled(rt, b" REFUSED", said.number as u64)?;
+    natural(rt, said.place as u64)
 }
 
 // A label and a number.
-pub fn labelled(label: &[u8], n: u64) {
-    io::write_all(STDOUT_FILENO, label);
-    natural(n);
+pub fn labelled(rt: &impl Print, label: &[u8], n: u64) -> io::Result<()> {
+    rt.write_all(label)?;
+    natural(rt, n)
 }
 
 // Bytes in hexadecimal, each after a space.
-pub fn bytes(s: &[u8]) {
-    let mut i = 0;
-    while i < s.len() {
-        io::write_all(STDOUT_FILENO, b" ");
-        io::print_hex(STDOUT_FILENO, s[i] as u64, 2);
-        i += 1;
+pub fn bytes(rt: &impl Print, s: &[u8]) -> io::Result<()> {
+    for byte in s {
+        print!(rt; " {byte:02x}")?;
     }
+    Ok(())
 }
 
 // The header's values: version, cells, edge, origin and count.
-fn show_header(header: Header) {
-    labelled(b" HEADER", header.version as u64);
+fn show_header(rt: &impl Print, header: Header) -> io::Result<()> {
+    labelled(rt, b" HEADER", header.version as u64)?;
     let g = header.grid;
-    natural(g.nx as u64);
-    natural(g.ny as u64);
-    natural(g.nz as u64);
-    integer(g.edge);
-    show_point(g.origin);
-    natural(header.count as u64);
+    natural(rt, g.nx as u64)?;
+    natural(rt, g.ny as u64)?;
+    natural(rt, g.nz as u64)?;
+    integer(rt, g.edge)?;
+    show_point(rt, g.origin)?;
+    natural(rt, header.count as u64)
 }
 
 // A record's ten numbers.
-fn show_record(record: Record) {
-    labelled(b" RECORD", record.kind as u64);
+fn show_record(rt: &impl Print, record: Record) -> io::Result<()> {
+    labelled(rt, b" RECORD", record.kind as u64)?;
     let t = record.triangle;
-    show_point(t.v0);
-    show_point(t.v1);
-    show_point(t.v2);
+    show_point(rt, t.v0)?;
+    show_point(rt, t.v1)?;
+    show_point(rt, t.v2)
 }
 
 // The three numbers of a point.
-fn show_point(p: Point) {
-    integer(p.x);
-    integer(p.y);
-    integer(p.z);
+fn show_point(rt: &impl Print, p: Point) -> io::Result<()> {
+    integer(rt, p.x)?;
+    integer(rt, p.y)?;
+    integer(rt, p.z)
 }
 
 // A space and a number.
-fn natural(n: u64) {
-    io::write_all(STDOUT_FILENO, b" ");
-    io::print_decimal(STDOUT_FILENO, n);
+fn natural(rt: &impl Print, n: u64) -> io::Result<()> {
+    print!(rt; " {n}")
 }
 
-// A space and a number, with its sign if it is negative. One is added first, since the least i64 has no negation.
-fn integer(x: i64) {
-    if x < 0 {
-        let less = x + 1;
-        let size = -less;
-        io::write_all(STDOUT_FILENO, b" -");
-        io::print_decimal(STDOUT_FILENO, size as u64 + 1);
-    } else {
-        natural(x as u64);
-    }
+// A space and a number, with its sign if it is negative.
+fn integer(rt: &impl Print, x: i64) -> io::Result<()> {
+    print!(rt; " {x}")
 }
