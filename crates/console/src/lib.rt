@@ -2,7 +2,7 @@
 // command that runs them has to know goes to standard error, in lines.
 #![tactic(auto)]
 
-ghost use Rattle.std.specs.Prelude.{IsTrue, OnOk, ◌<◌, length, take};
+ghost use Rattle.std.specs.Prelude.{◌≡◌, ◌↔◌, false, IsTrue, IsErr, IfOk, OnOk, ◌<◌, length, take};
 ghost use Rattle.std.specs.Io.KnownBytes.{Appends, Consumes, IsAtEnd};
 ghost use Rattle.io.specs.Counts.{IsPrefixLen};
 
@@ -75,7 +75,8 @@ pub fn read_input(rt: &impl Streams, buf: &mut [u8]) -> Input
     input
 }
 
-// Writes the first len bytes to standard output, and answers whether all were taken. Where not, it says LOST.
+// Writes the first len bytes to standard output, and answers whether all were taken. Where not, it says LOST; but nothing
+// where nobody reads them.
 pub fn send(rt: &impl Streams, out: &[u8], len: usize) -> Result<bool, Gone> {
     match write(&mut rt.output(), out, len) {
         Ok(()) => Ok(true),
@@ -83,8 +84,11 @@ pub fn send(rt: &impl Streams, out: &[u8], len: usize) -> Result<bool, Gone> {
     }
 }
 
-// What an error of this kind means for the output.
-fn lose(rt: &impl Streams, kind: ErrorKind) -> Result<bool, Gone> {
+// What an error of this kind means for the output: nobody reads it, or it is lost.
+fn lose(rt: &impl Streams, kind: ErrorKind) -> Result<bool, Gone>
+    ensures gone { IsErr result ↔ (kind ≡ ErrorKind.BrokenPipe) }
+    ensures lost { IfOk result (λ taken. taken ≡ false) }
+{
     if kind == ErrorKind::BrokenPipe {
         return Err(Gone);
     }
