@@ -9,7 +9,7 @@ use std::{env, fs, process};
 
 /// An archive that a wrapper links.
 pub struct Archive {
-    /// Its name, as in `rt staticlib NAME`: the file is `libNAME.a`.
+    /// Its name, as in `tools/staticlib NAME`: the file is `libNAME.a`.
     pub name: &'static str,
     /// The variable that may name its folder.
     pub variable: &'static str,
