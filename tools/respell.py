@@ -77,7 +77,8 @@ def main():
         for f, old, new in together(place, table):
             print("together:", f, old, new)
         return
-    pages = sorted(glob.glob(f"{place}/docs/**/*.md", recursive=True)) + [f"{place}/README.md"]
+    # The notes of the requests, in a folder of their own, have the names of their time.
+    pages = sorted(glob.glob(f"{place}/docs/*.md")) + [f"{place}/README.md"]
     for f in list(places(place)) + pages:
         text = open(f, encoding="utf-8").read()
         new = CODE.sub(lambda m: turn(m[0], table), text) if f.endswith(".md") else turn(text, table)
