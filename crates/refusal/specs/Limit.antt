@@ -1,5 +1,5 @@
 -- The limits that an input may break, by the numbers of documents 01 and 02, and what a call says. Definitions only.
-use Rattle.std.specs.Prelude.{List, ℕ}
+use Rattle.std.specs.Prelude.{List, ℕ, Result, Ok, Err}
 use Rattle.refusal.specs.declared.Limit.{Limit}
 use Rattle.refusal.specs.declared.Limit.TheVariants.{ShortHeader, Version, ZeroEdge, ReservedBits, Extent, FileLength, UnusedKind, ShortMap, PointCount, PointOutside, ShortOutput, Unwritable, PlyForm, PlyVertex, PlyFace, CellOutside}
 use Rattle.refusal.specs.declared.Refusal.{Refusal}
@@ -34,6 +34,11 @@ refusal_of CellOutside = numbered 16 0
 -- What a call says that is refused for a limit.
 abbrev pub said_limit : {A : Type 0} → Limit → Answer A
 said_limit l = refused (refusal_of l).number (refusal_of l).place
+
+-- What the code's answer says: its value; or, where it is an error, the number and the place of the limit.
+abbrev pub said : {A : Type 0} → Result A Limit → Answer A
+said (Ok a) = gives a
+said (Err l) = said_limit l
 
 -- Bytes that a call replaces. After a refusal they are what they were.
 abbrev pub unless_refused : {A : Type 0} → Answer A → (new old : List ℕ) → List ℕ

@@ -4,8 +4,8 @@
 ghost use Rattle.std.specs.Prelude.{◌≡◌};
 ghost use Rattle.refusal.specs.Limit.{numbered, refusal_of};
 
-// A limit that an input breaks, named by what is wrong with it.
-#[derive(Clone, Copy)]
+// A limit that an input breaks, named by what is wrong with it: the error of every call that puts questions.
+#[derive(Clone, Copy, Debug, PartialEq, Eq)]
 pub enum Limit {
     ShortHeader,
     Version,
@@ -26,7 +26,7 @@ pub enum Limit {
 }
 
 // What a refused call says: the number of the first limit broken, and the place.
-#[derive(Clone, Copy)]
+#[derive(Clone, Copy, Debug, PartialEq, Eq)]
 pub struct Refusal {
     pub number: u32,
     pub place: usize,
@@ -39,12 +39,14 @@ fn numbered(number: u32, place: usize) -> Refusal
     Refusal { number, place }
 }
 
-impl Limit {
+impl From<Limit> for Refusal {
+    ghost from_gives = { λ limit refusal. refusal ≡ refusal_of limit };
+
     // The number and the place of a limit.
-    pub fn refusal(self) -> Refusal
-        ensures { result ≡ refusal_of self }
+    fn from(limit: Limit) -> Refusal
+        ensures { result ≡ refusal_of limit }
     {
-        match self {
+        match limit {
             Limit::ShortHeader => numbered(1, 0),
             Limit::Version => numbered(2, 0),
             Limit::ZeroEdge => numbered(3, 0),
@@ -63,11 +65,4 @@ impl Limit {
             Limit::CellOutside => numbered(16, 0),
         }
     }
-}
-
-// Whether an input passes some questions, or the first limit that it breaks.
-#[derive(Clone, Copy)]
-pub enum Verdict {
-    Passed,
-    Broken(Limit),
 }
