@@ -6,7 +6,7 @@ use mathlib.Core.Bool.{Bool, ◌&&◌}
 use mathlib.Core.List.{[], ◌∷◌}
 use lib.IntN.{ℤ, pos, neg_ℤ, ◌+ℤ◌, ◌-ℤ◌, ◌*ℤ◌}
 use lib.Signed.{◌≤ℤ◌, le_z}
-use Rattle.integers.specs.Order.{max_ℤ}
+use Rattle.std.specs.Int.{int_max}
 use Rattle.integers.proofs.Expr.{var, num, ◌⊕◌, ◌⊖◌, ◌⊗◌}
 use Rattle.integers.proofs.Ring.{ring}
 use Rattle.integers.proofs.Scales.{max-scale}
@@ -31,7 +31,7 @@ edge-constant n ea eb va vb pa pb {d} h =
     let ma = turned n (neg_ℤ eb) in
     let mb = turned n ea in
     (λ l. ma *ℤ pa +ℤ mb *ℤ pb -ℤ (ma *ℤ va +ℤ mb *ℤ vb) +ℤ max-scale ma h l +ℤ max-scale mb h l)
-    ∙ ring (ma ∷ mb ∷ va ∷ vb ∷ max_ℤ (pos 0) ma ∷ max_ℤ (pos 0) mb ∷ pa ∷ pb ∷ d ∷ [])
+    ∙ ring (ma ∷ mb ∷ va ∷ vb ∷ int_max (pos 0) ma ∷ int_max (pos 0) mb ∷ pa ∷ pb ∷ d ∷ [])
     (var 0 ⊗ var 6 ⊕ var 1 ⊗ var 7 ⊖ (var 0 ⊗ var 2 ⊕ var 1 ⊗ var 3) ⊕ var 8 ⊗ var 4 ⊕ var 8 ⊗ var 5)
     (var 8 ⊗ (var 4 ⊕ var 5) ⊖ (var 0 ⊗ (var 2 ⊖ var 6) ⊕ var 1 ⊗ (var 3 ⊖ var 7)))
     tt

@@ -1,7 +1,7 @@
 -- The overlap rule of one box, as the functions ask it. Definitions only; no public promise cites them.
 use Rattle.std.specs.Prelude.{Bool, ◌&&◌, List, [], ◌∷◌, ℕ, ℤ, pos, ◌+ℤ◌, ◌-ℤ◌}
 use Rattle.std.specs.Int.Signed.{le_z}
-use Rattle.integers.specs.Order.{min_ℤ, max_ℤ}
+use Rattle.std.specs.Int.{int_min, int_max}
 use Rattle.geometry.specs.Bounds.{coordinate_max, offset_max, normal_max, extent_max, each}
 use Rattle.geometry.specs.declared.Point.{Point}
 use Rattle.geometry.specs.declared.Triangle.{Triangle}
@@ -15,7 +15,7 @@ boxes_hold t p d = box_holds t p d x_of && box_holds t p d y_of && box_holds t p
 
 -- On an axis, the range of three coordinates meets that from `low` to `low` + d.
 abbrev pub axis_meets : (a0 a1 a2 low d : ℤ) → Bool
-axis_meets a0 a1 a2 low d = le_z (min_ℤ (min_ℤ a0 a1) a2) (low +ℤ d) && le_z low (max_ℤ (max_ℤ a0 a1) a2)
+axis_meets a0 a1 a2 low d = le_z (int_min (int_min a0 a1) a2) (low +ℤ d) && le_z low (int_max (int_max a0 a1) a2)
 
 -- ---- a triangle that is measured from the box's lowest corner: the box is cell (0, 0, 0) of its forms
 -- The plane with normal n through the corner v.

@@ -9,7 +9,7 @@ use mathlib.Core.Bool.{Bool, true, false, cond, and-eq-true_iff}
 use mathlib.Core.List.{List, [], ◌∷◌}
 use lib.IntN.{ℤ, pos, negsuc, neg_ℤ, nat_abs, ◌+ℤ◌, ◌-ℤ◌, ◌*ℤ◌, zero-*ℤ}
 use lib.Signed.{◌≤ℤ◌, ◌<ℤ◌, le_z, lt_z}
-use Rattle.integers.specs.Order.{min_ℤ, max_ℤ}
+use Rattle.std.specs.Int.{int_min, int_max}
 use Rattle.integers.proofs.Omega.{zarith, le-true}
 use Rattle.integers.proofs.Laws.{NN, ≤-or->, <→≤, ≤-antisymm, nn-mul}
 use Rattle.integers.proofs.Bounds.{abs_neg}
@@ -95,25 +95,25 @@ module _ (d m : ℤ) where
     | inr e ↦ record { α = d; step = inr refl; is = e }
   ]
 
-  greatest-at : Multiple d m (max_ℤ (pos 0) (d *ℤ m))
+  greatest-at : Multiple d m (int_max (pos 0) (d *ℤ m))
   greatest-at = multiple _ (max-either (pos 0) (d *ℤ m))
 
-  least_at : Multiple d m (min_ℤ (pos 0) (d *ℤ m))
+  least_at : Multiple d m (int_min (pos 0) (d *ℤ m))
   least_at = multiple _ (min-either (pos 0) (d *ℤ m))
 
   -- what holds of 0 and of d · m holds at each corner
   at-corner : (P : ℤ → Type 0) → P (pos 0) → P (d *ℤ m) → {α : ℤ} → Step d α → P (α *ℤ m)
   at-corner P z f h = elim h [ inl e ↦ subst (λ a. P (a *ℤ m)) (sym e) (rw zero-*ℤ z) | inr e ↦ subst (λ a. P (a *ℤ m)) (sym e) f ]
 
-  at_most : {α : ℤ} → Step d α → (α *ℤ m) ≤ℤ max_ℤ (pos 0) (d *ℤ m)
-  at_most = at-corner (λ z. z ≤ℤ max_ℤ (pos 0) (d *ℤ m)) (≤-max-left (pos 0) (d *ℤ m)) (≤-max-right (pos 0) (d *ℤ m))
+  at_most : {α : ℤ} → Step d α → (α *ℤ m) ≤ℤ int_max (pos 0) (d *ℤ m)
+  at_most = at-corner (λ z. z ≤ℤ int_max (pos 0) (d *ℤ m)) (≤-max-left (pos 0) (d *ℤ m)) (≤-max-right (pos 0) (d *ℤ m))
 
-  at_least : {α : ℤ} → Step d α → min_ℤ (pos 0) (d *ℤ m) ≤ℤ (α *ℤ m)
-  at_least = at-corner (λ z. min_ℤ (pos 0) (d *ℤ m) ≤ℤ z) (min-≤-left (pos 0) (d *ℤ m)) (min-≤-right (pos 0) (d *ℤ m))
+  at_least : {α : ℤ} → Step d α → int_min (pos 0) (d *ℤ m) ≤ℤ (α *ℤ m)
+  at_least = at-corner (λ z. int_min (pos 0) (d *ℤ m) ≤ℤ z) (min-≤-left (pos 0) (d *ℤ m)) (min-≤-right (pos 0) (d *ℤ m))
 
 -- ---- the rule's value of an edge, over the numbers in the plane of two axes
 abbrev pub value_in : (ma mb va vb pa pb d : ℤ) → ℤ
-value_in ma mb va vb pa pb d = ma *ℤ pa +ℤ mb *ℤ pb -ℤ (ma *ℤ va +ℤ mb *ℤ vb) +ℤ max_ℤ (pos 0) (d *ℤ ma) +ℤ max_ℤ (pos 0) (d *ℤ mb)
+value_in ma mb va vb pa pb d = ma *ℤ pa +ℤ mb *ℤ pb -ℤ (ma *ℤ va +ℤ mb *ℤ vb) +ℤ int_max (pos 0) (d *ℤ ma) +ℤ int_max (pos 0) (d *ℤ mb)
 
 abbrev pub edge_in : (n ea eb va vb pa pb d : ℤ) → ℤ
 edge_in n ea eb va vb pa pb d = value_in (turned n (neg_ℤ eb)) (turned n ea) va vb pa pb d
@@ -150,10 +150,10 @@ module _ (σ ea eb va vb pa pb d : ℤ) {α β : ℤ} (hα : Step d α) (hβ : S
   valueᴱ = maᴱ ⊗ var 5 ⊕ mbᴱ ⊗ var 6 ⊖ (maᴱ ⊗ var 3 ⊕ mbᴱ ⊗ var 4) ⊕ var 9 ⊕ var 10
 
   abbrev xa : ℤ
-  xa = max_ℤ (pos 0) (d *ℤ ma)
+  xa = int_max (pos 0) (d *ℤ ma)
 
   abbrev xb : ℤ
-  xb = max_ℤ (pos 0) (d *ℤ mb)
+  xb = int_max (pos 0) (d *ℤ mb)
 
   -- where a corner is on the inner side, the test holds
   corner-holds : NN here → NN (value_in ma mb va vb pa pb d)
@@ -162,26 +162,26 @@ module _ (σ ea eb va vb pa pb d : ℤ) {α β : ℤ} (hα : Step d α) (hβ : S
       (nn hereᴱ h ⊞ le (var 7 ⊗ maᴱ) (var 9) (at_most d ma hα) ⊞ le (var 8 ⊗ mbᴱ) (var 10) (at_most d mb hβ)) tt
 
   -- where the whole square is, each corner is
-  square-corner : let ya = min_ℤ (pos 0) (d *ℤ ma) in let yb = min_ℤ (pos 0) (d *ℤ mb) in (xa -ℤ ya +ℤ (xb -ℤ yb)) ≤ℤ value_in ma mb va vb pa pb d → NN here
+  square-corner : let ya = int_min (pos 0) (d *ℤ ma) in let yb = int_min (pos 0) (d *ℤ mb) in (xa -ℤ ya +ℤ (xb -ℤ yb)) ≤ℤ value_in ma mb va vb pa pb d → NN here
   square-corner h =
-      let ya = min_ℤ (pos 0) (d *ℤ ma) in
-      let yb = min_ℤ (pos 0) (d *ℤ mb) in
+      let ya = int_min (pos 0) (d *ℤ ma) in
+      let yb = int_min (pos 0) (d *ℤ mb) in
       by-nn (ρc xa xb ya yb) hereᴱ
       (le (var 9 ⊖ var 11 ⊕ (var 10 ⊖ var 12)) valueᴱ h ⊞ le (var 11) (var 7 ⊗ maᴱ) (at_least d ma hα) ⊞ le (var 12) (var 8 ⊗ mbᴱ) (at_least d mb hβ)) tt
 
 -- the square's spread, as it is computed
 module _ {d : ℤ} (h : pos 0 ≤ℤ d) where
-  spread-of : (m : ℤ) → max_ℤ (pos 0) (d *ℤ m) -ℤ min_ℤ (pos 0) (d *ℤ m) ≡ d *ℤ pos (nat_abs m)
+  spread-of : (m : ℤ) → int_max (pos 0) (d *ℤ m) -ℤ int_min (pos 0) (d *ℤ m) ≡ d *ℤ pos (nat_abs m)
   spread-of m =
       ap₂ ◌-ℤ◌ (max-scale m h) (min-scale m h)
-      ∙ ring (d ∷ max_ℤ (pos 0) m ∷ min_ℤ (pos 0) m ∷ []) (var 0 ⊗ var 1 ⊖ var 0 ⊗ var 2) (var 0 ⊗ (var 1 ⊖ var 2)) tt
+      ∙ ring (d ∷ int_max (pos 0) m ∷ int_min (pos 0) m ∷ []) (var 0 ⊗ var 1 ⊖ var 0 ⊗ var 2) (var 0 ⊗ (var 1 ⊖ var 2)) tt
       ∙ ap (λ (z : ℤ). d *ℤ z) (spread m)
 
   size_of : (n c : ℤ) → nat_abs (orientation n *ℤ c) ≡ nat_abs c
   size_of n c = ap nat_abs (sym (turned_by n c)) ∙ turned-size n c
 
   square-is : (n ea eb : ℤ) → let ma = orientation n *ℤ neg_ℤ eb in let mb = orientation n *ℤ ea in
-      max_ℤ (pos 0) (d *ℤ ma) -ℤ min_ℤ (pos 0) (d *ℤ ma) +ℤ (max_ℤ (pos 0) (d *ℤ mb) -ℤ min_ℤ (pos 0) (d *ℤ mb)) ≡ d *ℤ (pos (nat_abs ea) +ℤ pos (nat_abs eb))
+      int_max (pos 0) (d *ℤ ma) -ℤ int_min (pos 0) (d *ℤ ma) +ℤ (int_max (pos 0) (d *ℤ mb) -ℤ int_min (pos 0) (d *ℤ mb)) ≡ d *ℤ (pos (nat_abs ea) +ℤ pos (nat_abs eb))
   square-is n ea eb =
       ap₂ ◌+ℤ◌ (spread-of (orientation n *ℤ neg_ℤ eb) ∙ ap (λ k. d *ℤ pos k) (size_of n (neg_ℤ eb) ∙ abs_neg eb)) (spread-of (orientation n *ℤ ea) ∙ ap (λ k. d *ℤ pos k) (size_of n ea))
       ∙ ring (d ∷ pos (nat_abs ea) ∷ pos (nat_abs eb) ∷ []) (var 0 ⊗ var 2 ⊕ var 0 ⊗ var 1) (var 0 ⊗ (var 1 ⊕ var 2)) tt
@@ -223,8 +223,8 @@ module _ (n o v p : Point) (d : ℤ) (through : dot n v ≡ dot n o) where
       wanted = subst (λ v. NN (τ *ℤ v)) corner-value h;
     }
 
-  corner-for : plane_sum (min_ℤ (pos 0) (d *ℤ n.x)) (min_ℤ (pos 0) (d *ℤ n.y)) (min_ℤ (pos 0) (d *ℤ n.z)) ≤ℤ pos 0
-      → pos 0 ≤ℤ plane_sum (max_ℤ (pos 0) (d *ℤ n.x)) (max_ℤ (pos 0) (d *ℤ n.y)) (max_ℤ (pos 0) (d *ℤ n.z)) → (τ : ℤ) → Corner τ
+  corner-for : plane_sum (int_min (pos 0) (d *ℤ n.x)) (int_min (pos 0) (d *ℤ n.y)) (int_min (pos 0) (d *ℤ n.z)) ≤ℤ pos 0
+      → pos 0 ≤ℤ plane_sum (int_max (pos 0) (d *ℤ n.x)) (int_max (pos 0) (d *ℤ n.y)) (int_max (pos 0) (d *ℤ n.z)) → (τ : ℤ) → Corner τ
   corner-for l g τ = elim (≤-or-> (pos 0) τ) [
     | inl h ↦ corner-of (greatest-at d n.x) (greatest-at d n.y) (greatest-at d n.z) τ (nn-mul h g)
     | inr h ↦ corner-of (least_at d n.x) (least_at d n.y) (least_at d n.z) τ (nn-mul-neg (<→≤ h) l)

@@ -8,7 +8,7 @@ use mathlib.Core.List.{[], ◌∷◌}
 use Prim.Native.Nat.{ℕ}
 use lib.IntN.{ℤ, pos, ◌+ℤ◌, ◌*ℤ◌}
 use lib.Signed.{le_z}
-use Rattle.integers.specs.Order.{min_ℤ, max_ℤ}
+use Rattle.std.specs.Int.{int_min, int_max}
 use Rattle.integers.proofs.Expr.{var, ◌⊕◌}
 use Rattle.integers.proofs.Ring.{ring}
 use Rattle.geometry.specs.declared.Point.{Point}
@@ -37,8 +37,8 @@ module _ (t : Triangle) (p : Point) (d : ℤ) where
       let t' = turn_triangle t in
       let p' = turn_point p in
       ap₂ ◌&&◌
-      (ap (λ (z : ℤ). le_z z (pos 0)) (least8-sum t' p' (cube d) ∙ sum-turned min_ℤ ∙ sym (least8-sum t p (cube d))))
-      (ap (le_z (pos 0)) (greatest8-sum t' p' (cube d) ∙ sum-turned max_ℤ ∙ sym (greatest8-sum t p (cube d))))
+      (ap (λ (z : ℤ). le_z z (pos 0)) (least8-sum t' p' (cube d) ∙ sum-turned int_min ∙ sym (least8-sum t p (cube d))))
+      (ap (le_z (pos 0)) (greatest8-sum t' p' (cube d) ∙ sum-turned int_max ∙ sym (greatest8-sum t p (cube d))))
 
   last-first : (a b c : Bool) → (b && c && a) ≡ (a && b && c)
   last-first a b c = and_comm (b && c) a ∙ sym (and_assoc a b c)

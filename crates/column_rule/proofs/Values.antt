@@ -8,7 +8,7 @@ use mathlib.Core.List.{List, [], ◌∷◌}
 use Prim.Native.Nat.{ℕ}
 use lib.IntN.{ℤ, pos, neg_ℤ, nat_abs, ◌+ℤ◌, ◌-ℤ◌, ◌*ℤ◌}
 use lib.Signed.{◌≤ℤ◌, le_z, lt_z}
-use Rattle.integers.specs.Order.{min_ℤ, max_ℤ}
+use Rattle.std.specs.Int.{int_min, int_max}
 use Rattle.integers.proofs.Omega.{zarith, +!, -!, neg!, abs! }
 use Rattle.integers.proofs.Expr.{Expr, var, num, neg, ◌⊕◌, ◌⊖◌, ◌⊗◌}
 use Rattle.integers.proofs.Ring.{ring}
@@ -35,7 +35,7 @@ edge-value n ea eb va vb oa ob s {d} h i j =
     let ma = turned n (neg_ℤ eb) in
     let mb = turned n ea in
     (λ l. ma *ℤ (oa +ℤ i *ℤ s) +ℤ mb *ℤ (ob +ℤ j *ℤ s) -ℤ (ma *ℤ va +ℤ mb *ℤ vb) +ℤ max-scale ma h l +ℤ max-scale mb h l)
-    ∙ ring (ma ∷ mb ∷ va ∷ vb ∷ i ∷ j ∷ max_ℤ (pos 0) ma ∷ max_ℤ (pos 0) mb ∷ oa ∷ ob ∷ s ∷ d ∷ [])
+    ∙ ring (ma ∷ mb ∷ va ∷ vb ∷ i ∷ j ∷ int_max (pos 0) ma ∷ int_max (pos 0) mb ∷ oa ∷ ob ∷ s ∷ d ∷ [])
     (var 0 ⊗ (var 8 ⊕ var 4 ⊗ var 10) ⊕ var 1 ⊗ (var 9 ⊕ var 5 ⊗ var 10) ⊖ (var 0 ⊗ var 2 ⊕ var 1 ⊗ var 3) ⊕ var 11 ⊗ var 6 ⊕ var 11 ⊗ var 7)
     (var 10 ⊗ var 0 ⊗ var 4 ⊕ var 10 ⊗ var 1 ⊗ var 5 ⊕ (var 11 ⊗ (var 6 ⊕ var 7) ⊖ (var 0 ⊗ (var 2 ⊖ var 8) ⊕ var 1 ⊗ (var 3 ⊖ var 9))))
     tt
@@ -55,22 +55,22 @@ module _ (A B F R : ℤ) where
 
 -- the numbers of a component of the normal
 module _ (x : ℤ) where
-  size_is : pos (nat_abs x) ≡ max_ℤ (pos 0) x -ℤ min_ℤ (pos 0) x
+  size_is : pos (nat_abs x) ≡ int_max (pos 0) x -ℤ int_min (pos 0) x
   size_is = sym (spread x)
 
-  size-negated : pos (nat_abs (neg_ℤ x)) ≡ max_ℤ (pos 0) x -ℤ min_ℤ (pos 0) x
-  size-negated = omega (zarith, neg! x, abs! (neg_ℤ x), max! (pos 0) x, min! (pos 0) x, -! (max_ℤ (pos 0) x) (min_ℤ (pos 0) x))
+  size-negated : pos (nat_abs (neg_ℤ x)) ≡ int_max (pos 0) x -ℤ int_min (pos 0) x
+  size-negated = omega (zarith, neg! x, abs! (neg_ℤ x), max! (pos 0) x, min! (pos 0) x, -! (int_max (pos 0) x) (int_min (pos 0) x))
 
-  max-negated : max_ℤ (pos 0) (neg_ℤ x) ≡ neg_ℤ (min_ℤ (pos 0) x)
-  max-negated = omega (zarith, neg! x, neg! (min_ℤ (pos 0) x), max! (pos 0) (neg_ℤ x), min! (pos 0) x)
+  max-negated : int_max (pos 0) (neg_ℤ x) ≡ neg_ℤ (int_min (pos 0) x)
+  max-negated = omega (zarith, neg! x, neg! (int_min (pos 0) x), max! (pos 0) (neg_ℤ x), min! (pos 0) x)
 
-  sum_is : max_ℤ (pos 0) x +ℤ min_ℤ (pos 0) x ≡ x
-  sum_is = omega (zarith, max! (pos 0) x, min! (pos 0) x, +! (max_ℤ (pos 0) x) (min_ℤ (pos 0) x))
+  sum_is : int_max (pos 0) x +ℤ int_min (pos 0) x ≡ x
+  sum_is = omega (zarith, max! (pos 0) x, min! (pos 0) x, +! (int_max (pos 0) x) (int_min (pos 0) x))
 
-  least-of : lt_z x (pos 0) ≡ false → min_ℤ (pos 0) x ≡ pos 0
+  least-of : lt_z x (pos 0) ≡ false → int_min (pos 0) x ≡ pos 0
   least-of h = omega (zarith, min! (pos 0) x)
 
-  greatest-of : lt_z x (pos 0) ≡ true → max_ℤ (pos 0) x ≡ pos 0
+  greatest-of : lt_z x (pos 0) ≡ true → int_max (pos 0) x ≡ pos 0
   greatest-of h = omega (zarith, max! (pos 0) x)
 
 module _ (t : Triangle) (l : Lattice) (positive : pos 0 ≤ℤ l.extent) (i j k : ℕ) where
@@ -91,10 +91,10 @@ module _ (t : Triangle) (l : Lattice) (positive : pos 0 ≤ℤ l.extent) (i j k 
 
   -- the greatest and the least value over the box's corners
   abbrev A : ℤ
-  A = dot n (minus p v) +ℤ d *ℤ max_ℤ (pos 0) n.x +ℤ d *ℤ max_ℤ (pos 0) n.y +ℤ d *ℤ max_ℤ (pos 0) n.z
+  A = dot n (minus p v) +ℤ d *ℤ int_max (pos 0) n.x +ℤ d *ℤ int_max (pos 0) n.y +ℤ d *ℤ int_max (pos 0) n.z
 
   abbrev B : ℤ
-  B = dot n (minus p v) +ℤ d *ℤ min_ℤ (pos 0) n.x +ℤ d *ℤ min_ℤ (pos 0) n.y +ℤ d *ℤ min_ℤ (pos 0) n.z
+  B = dot n (minus p v) +ℤ d *ℤ int_min (pos 0) n.x +ℤ d *ℤ int_min (pos 0) n.y +ℤ d *ℤ int_min (pos 0) n.z
 
   by-sums : plane_holds t p (cube d) ≡ (le_z B (pos 0) && le_z (pos 0) A)
   by-sums =
@@ -106,8 +106,8 @@ module _ (t : Triangle) (l : Lattice) (positive : pos 0 ≤ℤ l.extent) (i j k 
   -- nx ny nz, vx vy vz, ox oy oz, i j k, s d, then for each component the greater and the lesser, and two further numbers for x and for y
   abbrev ρ : (ax ay mx my : ℤ) → List ℤ
   ρ ax ay mx my =
-      n.x ∷ n.y ∷ n.z ∷ v.x ∷ v.y ∷ v.z ∷ o.x ∷ o.y ∷ o.z ∷ pos i ∷ pos j ∷ pos k ∷ l.step ∷ d ∷ max_ℤ (pos 0) n.x ∷ min_ℤ (pos 0) n.x ∷ max_ℤ (pos 0) n.y
-      ∷ min_ℤ (pos 0) n.y ∷ max_ℤ (pos 0) n.z ∷ min_ℤ (pos 0) n.z ∷ ax ∷ ay ∷ mx ∷ my ∷ []
+      n.x ∷ n.y ∷ n.z ∷ v.x ∷ v.y ∷ v.z ∷ o.x ∷ o.y ∷ o.z ∷ pos i ∷ pos j ∷ pos k ∷ l.step ∷ d ∷ int_max (pos 0) n.x ∷ int_min (pos 0) n.x ∷ int_max (pos 0) n.y
+      ∷ int_min (pos 0) n.y ∷ int_max (pos 0) n.z ∷ int_min (pos 0) n.z ∷ ax ∷ ay ∷ mx ∷ my ∷ []
 
   abbrev sumᴱ : (x y z : Expr) → Expr
   sumᴱ x y z =
@@ -134,10 +134,10 @@ module _ (t : Triangle) (l : Lattice) (positive : pos 0 ≤ℤ l.extent) (i j k 
 
   module _ (up : lt_z n.z (pos 0) ≡ false) where
     abbrev ρ⁺ : List ℤ
-    ρ⁺ = ρ (pos (nat_abs n.x)) (pos (nat_abs n.y)) (max_ℤ (pos 0) n.x) (max_ℤ (pos 0) n.y)
+    ρ⁺ = ρ (pos (nat_abs n.x)) (pos (nat_abs n.y)) (int_max (pos 0) n.x) (int_max (pos 0) n.y)
 
     abbrev F⁺ : ℤ
-    F⁺ = X n.x n.y n.z (max_ℤ (pos 0) n.x) (max_ℤ (pos 0) n.y)
+    F⁺ = X n.x n.y n.z (int_max (pos 0) n.x) (int_max (pos 0) n.y)
 
     abbrev R⁺ : ℤ
     R⁺ = d *ℤ (pos (nat_abs n.x) +ℤ pos (nat_abs n.y) +ℤ n.z)
@@ -156,10 +156,10 @@ module _ (t : Triangle) (l : Lattice) (positive : pos 0 ≤ℤ l.extent) (i j k 
 
   module _ (down : lt_z n.z (pos 0) ≡ true) where
     abbrev ρ⁻ : List ℤ
-    ρ⁻ = ρ (pos (nat_abs (neg_ℤ n.x))) (pos (nat_abs (neg_ℤ n.y))) (max_ℤ (pos 0) (neg_ℤ n.x)) (max_ℤ (pos 0) (neg_ℤ n.y))
+    ρ⁻ = ρ (pos (nat_abs (neg_ℤ n.x))) (pos (nat_abs (neg_ℤ n.y))) (int_max (pos 0) (neg_ℤ n.x)) (int_max (pos 0) (neg_ℤ n.y))
 
     abbrev F⁻ : ℤ
-    F⁻ = X (neg_ℤ n.x) (neg_ℤ n.y) (neg_ℤ n.z) (max_ℤ (pos 0) (neg_ℤ n.x)) (max_ℤ (pos 0) (neg_ℤ n.y))
+    F⁻ = X (neg_ℤ n.x) (neg_ℤ n.y) (neg_ℤ n.z) (int_max (pos 0) (neg_ℤ n.x)) (int_max (pos 0) (neg_ℤ n.y))
 
     abbrev R⁻ : ℤ
     R⁻ = d *ℤ (pos (nat_abs (neg_ℤ n.x)) +ℤ pos (nat_abs (neg_ℤ n.y)) +ℤ neg_ℤ n.z)
@@ -181,6 +181,6 @@ module _ (t : Triangle) (l : Lattice) (positive : pos 0 ≤ℤ l.extent) (i j k 
   plane-slab = by-sums ∙ go (lt_z n.z (pos 0)) refl
     where
       go : (t : Bool) → lt_z n.z (pos 0) ≡ t → let x = cond t (neg_ℤ n.x) n.x in let y = cond t (neg_ℤ n.y) n.y in let z = cond t (neg_ℤ n.z) n.z in
-          (le_z B (pos 0) && le_z (pos 0) A) ≡ (le_z (pos 0) (X x y z (max_ℤ (pos 0) x) (max_ℤ (pos 0) y)) && le_z (X x y z (max_ℤ (pos 0) x) (max_ℤ (pos 0) y)) (d *ℤ (pos (nat_abs x) +ℤ pos (nat_abs y) +ℤ z)))
+          (le_z B (pos 0) && le_z (pos 0) A) ≡ (le_z (pos 0) (X x y z (int_max (pos 0) x) (int_max (pos 0) y)) && le_z (X x y z (int_max (pos 0) x) (int_max (pos 0) y)) (d *ℤ (pos (nat_abs x) +ℤ pos (nat_abs y) +ℤ z)))
       go true e = slab-down A B (F⁻ e) (R⁻ e) (least⁻ e) (greatest⁻ e)
       go false e = slab-up A B (F⁺ e) (R⁺ e) (greatest⁺ e) (least⁺ e)

@@ -3,7 +3,7 @@
 use Rattle.std.specs.Prelude.{cond, List, [], ◌∷◌, ◌≡◌, ℕ, ℤ, pos, neg_ℤ, nat_abs, ◌+ℤ◌, ◌-ℤ◌, ◌*ℤ◌}
 use Rattle.std.specs.Int.Signed.{le_z}
 use Rattle.integers.specs.Within.{Within}
-use Rattle.integers.specs.Order.{max_ℤ}
+use Rattle.std.specs.Int.{int_max}
 use Rattle.geometry.specs.Bounds.{offset_max, difference_max, normal_max, step_max, extent_max, each, PointWithin}
 use Rattle.geometry.specs.declared.Point.{Point}
 use Rattle.geometry.specs.declared.Triangle.{Triangle}
@@ -24,7 +24,7 @@ abbrev pub edge_form : (n ea eb va vb s d : ℤ) → EdgeForm
 edge_form n ea eb va vb s d =
     let ma = turned n (neg_ℤ eb) in
     let mb = turned n ea in
-    record { a = s *ℤ ma; b = s *ℤ mb; c = d *ℤ (max_ℤ (pos 0) ma +ℤ max_ℤ (pos 0) mb) -ℤ (ma *ℤ va +ℤ mb *ℤ vb) }
+    record { a = s *ℤ ma; b = s *ℤ mb; c = d *ℤ (int_max (pos 0) ma +ℤ int_max (pos 0) mb) -ℤ (ma *ℤ va +ℤ mb *ℤ vb) }
 
 -- The value from which on a square of the plane is wholly on the edge's inner side. More than any value, where the normal is 0 on the third axis: there no square is.
 abbrev pub inside_from : (n ea eb d : ℤ) → ℤ
@@ -53,7 +53,7 @@ plane_form n v s d =
       u = s *ℤ m.x;
       v = s *ℤ m.y;
       w = s *ℤ m.z;
-      at = d *ℤ (max_ℤ (pos 0) m.x +ℤ max_ℤ (pos 0) m.y +ℤ m.z) -ℤ dot m v;
+      at = d *ℤ (int_max (pos 0) m.x +ℤ int_max (pos 0) m.y +ℤ m.z) -ℤ dot m v;
       reach = d *ℤ (pos (nat_abs m.x) +ℤ pos (nat_abs m.y) +ℤ m.z);
     }
 

@@ -1,4 +1,3 @@
-pub mod Order
 -- inner
 pub mod Within
 pub mod Inner

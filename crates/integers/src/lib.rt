@@ -3,21 +3,21 @@
 
 ghost use Rattle.std.specs.Prelude.{◌≡◌, ◌^◌, ◌<◌, pos, nat_abs, length, get_or, ◌≤ℤ◌, ◌<ℤ◌};
 ghost use Rattle.integers.specs.Within.{Within};
-ghost use Rattle.integers.specs.Order.{min_ℤ, max_ℤ};
+ghost use Rattle.std.specs.Int.{int_min, int_max};
 ghost use Rattle.integers.specs.Inner.{Floor};
 
 // The lesser of two numbers. A call keeps the branch out of the caller's proof.
 pub fn min(a: i64, b: i64) -> i64
-    ensures { result ≡ min_ℤ a b }
+    ensures { result ≡ int_min a b }
 {
-    if a <= b { a } else { b }
+    a.min(b)
 }
 
 // The greater of two numbers.
 pub fn max(a: i64, b: i64) -> i64
-    ensures { result ≡ max_ℤ a b }
+    ensures { result ≡ int_max a b }
 {
-    if a <= b { b } else { a }
+    a.max(b)
 }
 
 // x / d rounded down, where `/` rounds toward 0: the place of x among steps of size d.

@@ -9,7 +9,7 @@ use mathlib.Core.Path.{◌≡◌, refl, sym, ap, ap₂, ◌∙◌}
 use Prim.Native.Nat.{ℕ, ◌<◌}
 use lib.IntN.{ℤ, pos, neg_ℤ, nat_abs, ◌+ℤ◌, ◌-ℤ◌, ◌*ℤ◌, *ℤ-zero, zero-*ℤ}
 use lib.Signed.{◌≤ℤ◌, le_z, lt_z}
-use Rattle.integers.specs.Order.{min_ℤ, max_ℤ}
+use Rattle.std.specs.Int.{int_min, int_max}
 use Rattle.integers.proofs.Omega.{zarith, +!, -!, neg!, abs! }
 use Rattle.integers.proofs.Laws.{NN}
 use Rattle.integers.proofs.Expr.{Expr, var, num, neg, ◌⊕◌, ◌⊖◌, ◌⊗◌}
@@ -33,7 +33,7 @@ use Rattle.legs.specs.Slab.{rising_slab, slab_of, slabs_of, form_of, slab_holds,
 
 -- ---- an edge's value, with m = (ma, mb)
 abbrev value : (ma mb va vb pa pb d : ℤ) → ℤ
-value ma mb va vb pa pb d = ma *ℤ pa +ℤ mb *ℤ pb -ℤ (ma *ℤ va +ℤ mb *ℤ vb) +ℤ max_ℤ (pos 0) (d *ℤ ma) +ℤ max_ℤ (pos 0) (d *ℤ mb)
+value ma mb va vb pa pb d = ma *ℤ pa +ℤ mb *ℤ pb -ℤ (ma *ℤ va +ℤ mb *ℤ vb) +ℤ int_max (pos 0) (d *ℤ ma) +ℤ int_max (pos 0) (d *ℤ mb)
 
 -- of an edge with no length
 no_value : (va vb pa pb d : ℤ) {ma mb : ℤ} → ma ≡ pos 0 → mb ≡ pos 0 → value ma mb va vb pa pb d ≡ pos 0
@@ -54,7 +54,7 @@ module _ (ea eb va vb oa ob step d i j : ℤ) (down : eb ≤ℤ pos 0) (h : NN d
   -- the numbers, with an edge's start, max(0, ea), max(0, −ea) and |ea|; and what is said of them, as expressions
   abbrev ρ : (wa wb : ℤ) → List ℤ
   ρ wa wb =
-      ea ∷ eb ∷ va ∷ vb ∷ oa ∷ ob ∷ step ∷ d ∷ i ∷ j ∷ wa ∷ wb ∷ max_ℤ (pos 0) ea ∷ max_ℤ (pos 0) (neg_ℤ ea) ∷ pos (nat_abs ea) ∷ []
+      ea ∷ eb ∷ va ∷ vb ∷ oa ∷ ob ∷ step ∷ d ∷ i ∷ j ∷ wa ∷ wb ∷ int_max (pos 0) ea ∷ int_max (pos 0) (neg_ℤ ea) ∷ pos (nat_abs ea) ∷ []
 
   abbrev form : Expr
   form =
@@ -80,8 +80,8 @@ module _ (ea eb va vb oa ob step d i j : ℤ) (down : eb ≤ℤ pos 0) (h : NN d
       (by-eq (ρ wa wb) (valued (neg (neg (var 1))) (neg (var 0)) (num 0) (var 13)) (var 7 ⊗ (var 14 ⊖ var 1) ⊖ form)
       (line (num 1) on ⊹ ze (var 7) (var 12 ⊕ var 13) (var 14) both) tt)
     where
-      both : max_ℤ (pos 0) ea +ℤ max_ℤ (pos 0) (neg_ℤ ea) ≡ pos (nat_abs ea)
-      both = omega (zarith, +! (max_ℤ (pos 0) ea) (max_ℤ (pos 0) (neg_ℤ ea)), max! (pos 0) ea, max! (pos 0) (neg_ℤ ea), neg! ea, abs! ea)
+      both : int_max (pos 0) ea +ℤ int_max (pos 0) (neg_ℤ ea) ≡ pos (nat_abs ea)
+      both = omega (zarith, +! (int_max (pos 0) ea) (int_max (pos 0) (neg_ℤ ea)), max! (pos 0) ea, max! (pos 0) (neg_ℤ ea), neg! ea, abs! ea)
 
   two_edges : (wa wb ua ub : ℤ) → On wa wb → On ua ub
       → (le_z (pos 0) (at (neg_ℤ eb) ea wa wb) && le_z (pos 0) (at (neg_ℤ (neg_ℤ eb)) (neg_ℤ ea) ua ub)) ≡ slab_holds s i j
@@ -167,8 +167,8 @@ module _ (p q : Point) where
   plane-holds c d =
       let w = minus c p in
       ap₂ (λ (x y : ℤ). le_z x (pos 0) && le_z (pos 0) y)
-      (least8-sum t c d ∙ no-sum min_ℤ refl (normal t) d w flat)
-      (greatest8-sum t c d ∙ no-sum max_ℤ refl (normal t) d w flat)
+      (least8-sum t c d ∙ no-sum int_min refl (normal t) d w flat)
+      (greatest8-sum t c d ∙ no-sum int_max refl (normal t) d w flat)
 
   module _ (l : Lattice) (h : NN l.extent) (i j k : ℕ) where
     abbrev c : Point

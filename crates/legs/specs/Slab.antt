@@ -3,7 +3,7 @@
 use Rattle.std.specs.Prelude.{Bool, cond, ◌&&◌, List, [], ◌∷◌, ℕ, ◌≤◌, ℤ, pos, neg_ℤ, nat_abs, ◌+ℤ◌, ◌-ℤ◌, ◌*ℤ◌, ◌≤ℤ◌}
 use Rattle.std.specs.Int.Signed.{le_z, lt_z}
 use Rattle.integers.specs.Within.{Within}
-use Rattle.integers.specs.Order.{max_ℤ}
+use Rattle.std.specs.Int.{int_max}
 use Rattle.geometry.specs.Bounds.{offset_max, step_max, extent_max, index_max}
 use Rattle.geometry.specs.declared.Point.{Point}
 use Rattle.geometry.specs.Geometry.{Axis, x_of, y_of, z_of}
@@ -19,7 +19,7 @@ abbrev pub rising_slab : (ea eb va vb step extent : ℤ) → Slab
 rising_slab ea eb va vb step extent = record {
   a = neg_ℤ (step *ℤ eb);
   b = step *ℤ ea;
-  c = extent *ℤ (max_ℤ (pos 0) ea -ℤ eb) -ℤ (ea *ℤ vb -ℤ eb *ℤ va);
+  c = extent *ℤ (int_max (pos 0) ea -ℤ eb) -ℤ (ea *ℤ vb -ℤ eb *ℤ va);
   reach = extent *ℤ (pos (nat_abs ea) -ℤ eb);
 }
 

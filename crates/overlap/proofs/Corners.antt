@@ -3,7 +3,7 @@
 use mathlib.Core.Path.{◌≡◌, ap, ap₂, ◌∙◌}
 use mathlib.Core.List.{List, [], ◌∷◌}
 use lib.IntN.{ℤ, pos, ◌+ℤ◌, ◌*ℤ◌, zero-*ℤ}
-use Rattle.integers.specs.Order.{min_ℤ, max_ℤ}
+use Rattle.std.specs.Int.{int_min, int_max}
 use Rattle.integers.proofs.Omega.{zarith, +! }
 use Rattle.integers.proofs.Laws.{+-right-comm}
 use Rattle.integers.proofs.Expr.{var, ◌⊕◌, ◌⊖◌, ◌⊗◌}
@@ -13,11 +13,11 @@ use Rattle.geometry.specs.declared.Point.{Point}
 use Rattle.geometry.specs.declared.Triangle.{Triangle}
 use Rattle.overlap.specs.Rule.{Side, low, high, step, corner, normal, offset, over_sides, over_corners, least8, greatest8}
 
-min-shift : (k a b : ℤ) → min_ℤ (k +ℤ a) (k +ℤ b) ≡ k +ℤ min_ℤ a b
-min-shift k a b = omega (zarith, +! k a, +! k b, +! k (min_ℤ a b), min! a b, min! (k +ℤ a) (k +ℤ b))
+min-shift : (k a b : ℤ) → int_min (k +ℤ a) (k +ℤ b) ≡ k +ℤ int_min a b
+min-shift k a b = omega (zarith, +! k a, +! k b, +! k (int_min a b), min! a b, min! (k +ℤ a) (k +ℤ b))
 
-max-shift : (k a b : ℤ) → max_ℤ (k +ℤ a) (k +ℤ b) ≡ k +ℤ max_ℤ a b
-max-shift k a b = omega (zarith, +! k a, +! k b, +! k (max_ℤ a b), max! a b, max! (k +ℤ a) (k +ℤ b))
+max-shift : (k a b : ℤ) → int_max (k +ℤ a) (k +ℤ b) ≡ k +ℤ int_max a b
+max-shift k a b = omega (zarith, +! k a, +! k b, +! k (int_max a b), max! a b, max! (k +ℤ a) (k +ℤ b))
 
 -- the order of the terms
 x-last : (k x y z : ℤ) → k +ℤ x +ℤ z +ℤ y ≡ k +ℤ z +ℤ y +ℤ x
@@ -65,9 +65,9 @@ module _ (t : Triangle) (p d : Point) where
       tt
 
   pub least8-sum : let n = normal t in
-      least8 t p d ≡ offset t p +ℤ min_ℤ (pos 0) (d.x *ℤ n.x) +ℤ min_ℤ (pos 0) (d.y *ℤ n.y) +ℤ min_ℤ (pos 0) (d.z *ℤ n.z)
-  least8-sum = over-corners min_ℤ min-shift (λ α β γ. offset t (corner p d α β γ)) (offset t p) d (normal t) at-corner
+      least8 t p d ≡ offset t p +ℤ int_min (pos 0) (d.x *ℤ n.x) +ℤ int_min (pos 0) (d.y *ℤ n.y) +ℤ int_min (pos 0) (d.z *ℤ n.z)
+  least8-sum = over-corners int_min min-shift (λ α β γ. offset t (corner p d α β γ)) (offset t p) d (normal t) at-corner
 
   pub greatest8-sum : let n = normal t in
-      greatest8 t p d ≡ offset t p +ℤ max_ℤ (pos 0) (d.x *ℤ n.x) +ℤ max_ℤ (pos 0) (d.y *ℤ n.y) +ℤ max_ℤ (pos 0) (d.z *ℤ n.z)
-  greatest8-sum = over-corners max_ℤ max-shift (λ α β γ. offset t (corner p d α β γ)) (offset t p) d (normal t) at-corner
+      greatest8 t p d ≡ offset t p +ℤ int_max (pos 0) (d.x *ℤ n.x) +ℤ int_max (pos 0) (d.y *ℤ n.y) +ℤ int_max (pos 0) (d.z *ℤ n.z)
+  greatest8-sum = over-corners int_max max-shift (λ α β γ. offset t (corner p d α β γ)) (offset t p) d (normal t) at-corner

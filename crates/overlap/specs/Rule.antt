@@ -2,7 +2,7 @@
 -- The rule is stated for a box with lowest corner p and extent d; a cell with edge s is the box with extent (s, s, s).
 use Rattle.std.specs.Prelude.{Bool, cond, ◌&&◌, ℤ, pos, neg_ℤ, ◌+ℤ◌, ◌-ℤ◌, ◌*ℤ◌}
 use Rattle.std.specs.Int.Signed.{le_z, lt_z}
-use Rattle.integers.specs.Order.{min_ℤ, max_ℤ}
+use Rattle.std.specs.Int.{int_min, int_max}
 use Rattle.geometry.specs.declared.Point.{Point}
 use Rattle.geometry.specs.declared.Triangle.{Triangle}
 use Rattle.geometry.specs.Geometry.{point, minus, dot, cross, Axis, x_of, y_of, z_of}
@@ -23,10 +23,10 @@ normal t = cross (minus t.v1 t.v0) (minus t.v2 t.v0)
 -- ---- boxes
 -- On an axis, the least and the greatest corner value.
 abbrev pub least3 : Axis → Triangle → ℤ
-least3 a t = min_ℤ (min_ℤ (a t.v0) (a t.v1)) (a t.v2)
+least3 a t = int_min (int_min (a t.v0) (a t.v1)) (a t.v2)
 
 abbrev pub greatest3 : Axis → Triangle → ℤ
-greatest3 a t = max_ℤ (max_ℤ (a t.v0) (a t.v1)) (a t.v2)
+greatest3 a t = int_max (int_max (a t.v0) (a t.v1)) (a t.v2)
 
 -- On an axis, the least corner value is at most p + d; the greatest is at least p; both.
 abbrev pub least_holds : Triangle → (p d : Point) → Axis → Bool
@@ -63,10 +63,10 @@ abbrev pub over_corners : (ℤ → ℤ → ℤ) → (Side → Side → Side → 
 over_corners op f = over_sides op (λ α. over_sides op (λ β. over_sides op (λ γ. f α β γ)))
 
 abbrev pub least8 : Triangle → (p d : Point) → ℤ
-least8 t p d = over_corners min_ℤ (λ α β γ. offset t (corner p d α β γ))
+least8 t p d = over_corners int_min (λ α β γ. offset t (corner p d α β γ))
 
 abbrev pub greatest8 : Triangle → (p d : Point) → ℤ
-greatest8 t p d = over_corners max_ℤ (λ α β γ. offset t (corner p d α β γ))
+greatest8 t p d = over_corners int_max (λ α β γ. offset t (corner p d α β γ))
 
 -- Over the box's corners q, n · (q − v0) has least value ≤ 0 and greatest value ≥ 0.
 abbrev pub plane_holds : Triangle → (p d : Point) → Bool
@@ -83,7 +83,7 @@ abbrev pub edge_value : (a b : Axis) (n : ℤ) (e v : Point) (p d : Point) → �
 edge_value a b n e v p d =
     let ma = turned n (neg_ℤ (b e)) in
     let mb = turned n (a e) in
-    ma *ℤ a p +ℤ mb *ℤ b p -ℤ (ma *ℤ a v +ℤ mb *ℤ b v) +ℤ max_ℤ (pos 0) (a d *ℤ ma) +ℤ max_ℤ (pos 0) (b d *ℤ mb)
+    ma *ℤ a p +ℤ mb *ℤ b p -ℤ (ma *ℤ a v +ℤ mb *ℤ b v) +ℤ int_max (pos 0) (a d *ℤ ma) +ℤ int_max (pos 0) (b d *ℤ mb)
 
 -- The value is ≥ 0 for each of the three edges.
 abbrev pub edges_hold : Triangle → (p d : Point) → (a b : Axis) (n : ℤ) → Bool

@@ -1,7 +1,7 @@
 -- A triangle's box of cells: whether it has none, and whether it is one cell wide on an axis. Definitions only.
 use Rattle.std.specs.Prelude.{Bool, cond, ◌&&◌, ◌||◌, List, [], ◌∷◌, ℕ, ◌+◌, ◌<◌, leb, eqb, ℤ, pos, ◌+ℤ◌, ◌*ℤ◌}
 use Rattle.std.specs.Int.Signed.{le_z}
-use Rattle.integers.specs.Order.{min_ℤ, max_ℤ}
+use Rattle.std.specs.Int.{int_min, int_max}
 use Rattle.geometry.specs.Bounds.{coordinate_max, step_max, extent_max, each}
 use Rattle.grid.specs.declared.BoxRange.{BoxRange}
 use Rattle.grid.specs.declared.CellRange.{CellRange}
@@ -17,7 +17,7 @@ is_empty b = leb b.x.end b.x.first || leb b.y.end b.y.first || leb b.z.end b.z.f
 abbrev pub is_one : CellRange → (origin step extent a0 a1 a2 : ℤ) → Bool
 is_one r origin step extent a0 a1 a2 =
     let low = origin +ℤ pos r.first *ℤ step in
-    eqb r.end (r.first + 1) && le_z low (min_ℤ (min_ℤ a0 a1) a2) && le_z (max_ℤ (max_ℤ a0 a1) a2) (low +ℤ extent)
+    eqb r.end (r.first + 1) && le_z low (int_min (int_min a0 a1) a2) && le_z (int_max (int_max a0 a1) a2) (low +ℤ extent)
 
 -- The numbers that this asks for: the lattice's origin, step and extent, and three corners.
 abbrev pub one_bounds : List ℕ

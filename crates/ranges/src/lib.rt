@@ -3,7 +3,7 @@
 
 ghost use Rattle.std.specs.Prelude.{[], ◌∷◌, ◌^◌, ◌<◌, pos, ◌<ℤ◌};
 ghost use Rattle.integers.specs.Within.{Withins};
-ghost use Rattle.integers.specs.Order.{min_ℤ, max_ℤ};
+ghost use Rattle.std.specs.Int.{int_min, int_max};
 ghost use Rattle.geometry.specs.Bounds.{BoundedTriangle};
 ghost use Rattle.geometry.specs.Geometry.{triangle};
 ghost use Rattle.grid.specs.Usable.{UsableLattice};
@@ -47,7 +47,7 @@ fn axis_range(
     cells: usize,
 ) -> CellRange
     requires { Withins axis_bounds (a0 ∷ a1 ∷ a2 ∷ origin ∷ step ∷ extent ∷ []) × (pos 0 <ℤ step) × (cells < 2 ^ 63) }
-    ensures { Picks cells (ends_from (min_ℤ (min_ℤ a0 a1) a2) origin step extent) (begins_by (max_ℤ (max_ℤ a0 a1) a2) origin step) result }
+    ensures { Picks cells (ends_from (int_min (int_min a0 a1) a2) origin step extent) (begins_by (int_max (int_max a0 a1) a2) origin step) result }
 {
     let least = integers::min(integers::min(a0, a1), a2);
     let greatest = integers::max(integers::max(a0, a1), a2);

@@ -8,7 +8,7 @@ use mathlib.Core.Path.{◌≡◌, subst}
 use lib.Dec.{T}
 use lib.IntN.{ℤ, pos, negsuc, ◌+ℤ◌, ◌-ℤ◌, ◌*ℤ◌}
 use lib.Signed.{◌≤ℤ◌}
-use Rattle.integers.specs.Order.{min_ℤ, max_ℤ}
+use Rattle.std.specs.Int.{int_min, int_max}
 use Rattle.integers.proofs.Omega.{zarith}
 use Rattle.integers.proofs.Laws.{NN, nn-add, nn-mul, nn-pos}
 use Rattle.integers.proofs.Expr.{lit, var, num, ◌⊕◌, ◌⊖◌, ◌⊗◌}
@@ -57,15 +57,15 @@ module _ {t : Triangle} {p d : Point} {a : Axis} (h : Stays t p d a) where
   stays : (α : Side) → Inner (side (a p) (a d) (on t a) α)
   stays low =
       let f = h.from in
-      let k0 : a p ≤ℤ x0 = omega (zarith, min! x0 x1, min! (min_ℤ x0 x1) x2) in
-      let k1 : a p ≤ℤ x1 = omega (zarith, min! x0 x1, min! (min_ℤ x0 x1) x2) in
-      let k2 : a p ≤ℤ x2 = omega (zarith, min! x0 x1, min! (min_ℤ x0 x1) x2) in
+      let k0 : a p ≤ℤ x0 = omega (zarith, min! x0 x1, min! (int_min x0 x1) x2) in
+      let k1 : a p ≤ℤ x1 = omega (zarith, min! x0 x1, min! (int_min x0 x1) x2) in
+      let k2 : a p ≤ℤ x2 = omega (zarith, min! x0 x1, min! (int_min x0 x1) x2) in
       (low-nn (a p) x0 k0, low-nn (a p) x1 k1, low-nn (a p) x2 k2)
   stays high =
       let f = h.to in
-      let k0 : x0 ≤ℤ (a p +ℤ a d) = omega (zarith, max! x0 x1, max! (max_ℤ x0 x1) x2) in
-      let k1 : x1 ≤ℤ (a p +ℤ a d) = omega (zarith, max! x0 x1, max! (max_ℤ x0 x1) x2) in
-      let k2 : x2 ≤ℤ (a p +ℤ a d) = omega (zarith, max! x0 x1, max! (max_ℤ x0 x1) x2) in
+      let k0 : x0 ≤ℤ (a p +ℤ a d) = omega (zarith, max! x0 x1, max! (int_max x0 x1) x2) in
+      let k1 : x1 ≤ℤ (a p +ℤ a d) = omega (zarith, max! x0 x1, max! (int_max x0 x1) x2) in
+      let k2 : x2 ≤ℤ (a p +ℤ a d) = omega (zarith, max! x0 x1, max! (int_max x0 x1) x2) in
       (high-nn (a p) (a d) x0 k0, high-nn (a p) (a d) x1 k1, high-nn (a p) (a d) x2 k2)
 
 -- ---- all weight on one corner
@@ -121,8 +121,8 @@ module _ (t : Triangle) (p d : Point) (size : Size d) (hx : Stays t p d x_of) (h
       let b = z_of t.v1 in
       let c = z_of t.v2 in
       slab (facing p.z d.z (on t z_of) size.z)
-      (on-corner (h low) all (one_of (λ q. NN (pos 1 *ℤ (q -ℤ (p.z +ℤ pos 0)))) max_ℤ max-either a b c (low-nn p.z (greatest3 z_of t) high-z)))
-      (on-corner (h high) all (one_of (λ q. NN (negsuc 0 *ℤ (q -ℤ (p.z +ℤ d.z)))) min_ℤ min-either a b c (high-nn p.z d.z (least3 z_of t) low-z)))
+      (on-corner (h low) all (one_of (λ q. NN (pos 1 *ℤ (q -ℤ (p.z +ℤ pos 0)))) int_max max-either a b c (low-nn p.z (greatest3 z_of t) high-z)))
+      (on-corner (h high) all (one_of (λ q. NN (negsuc 0 *ℤ (q -ℤ (p.z +ℤ d.z)))) int_min min-either a b c (high-nn p.z d.z (least3 z_of t) low-z)))
 
   pub row-reaches : ReachesBox t p d
   row-reaches =

@@ -11,7 +11,7 @@ use mathlib.Core.List.{[], ◌∷◌}
 use lib.Dec.{T}
 use lib.IntN.{ℤ, pos, negsuc, neg_ℤ, ◌+ℤ◌, ◌-ℤ◌, ◌*ℤ◌, +ℤ_idr, zero-*ℤ}
 use lib.Signed.{◌≤ℤ◌, le_z, lt_z, le_z_yes, ≤ℤ_refl}
-use Rattle.integers.specs.Order.{min_ℤ, max_ℤ}
+use Rattle.std.specs.Int.{int_min, int_max}
 use Rattle.integers.proofs.Laws.{NN, ≤_trans, ≤-add}
 use Rattle.integers.proofs.Expr.{Expr, lit, var, num, ◌⊕◌, ◌⊗◌, ◌⊖◌, neg}
 use Rattle.integers.proofs.Certificates.{nn, le, ze, ◌⊞◌, ◌⊹◌, by-nn, by_le, by-eq}
@@ -68,20 +68,20 @@ inner-trans α a b c h k =
 
 -- the farthest of two numbers on the inner side: the greatest for a low side, the least for a high one
 abbrev farthest : Side → ℤ → ℤ → ℤ
-farthest low a b = max_ℤ a b
-farthest high a b = min_ℤ a b
+farthest low a b = int_max a b
+farthest high a b = int_min a b
 
 farthest-is : (α : Side) (a b : ℤ) → (farthest α a b ≡ a) ⊎ (farthest α a b ≡ b)
 farthest-is low a b = max-either a b
 farthest-is high a b = min-either a b
 
 farthest-left : (α : Side) (a b : ℤ) → Inner α a (farthest α a b)
-farthest-left low a b = (inner-low a (max_ℤ a b)).0 (≤-max-left a b)
-farthest-left high a b = (inner-high a (min_ℤ a b)).0 (min-≤-left a b)
+farthest-left low a b = (inner-low a (int_max a b)).0 (≤-max-left a b)
+farthest-left high a b = (inner-high a (int_min a b)).0 (min-≤-left a b)
 
 farthest-right : (α : Side) (a b : ℤ) → Inner α b (farthest α a b)
-farthest-right low a b = (inner-low b (max_ℤ a b)).0 (≤-max-right a b)
-farthest-right high a b = (inner-high b (min_ℤ a b)).0 (min-≤-right a b)
+farthest-right low a b = (inner-low b (int_max a b)).0 (≤-max-right a b)
+farthest-right high a b = (inner-high b (int_min a b)).0 (min-≤-right a b)
 
 -- it is on the inner side exactly when one of the two is
 module _ (α : Side) (c : ℤ) where
@@ -160,11 +160,11 @@ orientation-sign n = go (lt_z n (pos 0))
     go false = plus
 
 -- of the multiples 0 · m and d · m, the greatest belongs to a side, and is at least that of either side
-greatest-at : (d m : ℤ) → (α : Side) × (max_ℤ (pos 0) (d *ℤ m) ≡ step α d *ℤ m)
+greatest-at : (d m : ℤ) → (α : Side) × (int_max (pos 0) (d *ℤ m) ≡ step α d *ℤ m)
 greatest-at d m = elim (max-either (pos 0) (d *ℤ m)) [ inl e ↦ (low, e ∙ sym (zero-*ℤ m)) | inr e ↦ (high, e) ]
 
-greatest-of : (d m : ℤ) (α : Side) → (step α d *ℤ m) ≤ℤ max_ℤ (pos 0) (d *ℤ m)
-greatest-of d m low = subst (λ z. z ≤ℤ max_ℤ (pos 0) (d *ℤ m)) (sym (zero-*ℤ m)) (≤-max-left (pos 0) (d *ℤ m))
+greatest-of : (d m : ℤ) (α : Side) → (step α d *ℤ m) ≤ℤ int_max (pos 0) (d *ℤ m)
+greatest-of d m low = subst (λ z. z ≤ℤ int_max (pos 0) (d *ℤ m)) (sym (zero-*ℤ m)) (≤-max-left (pos 0) (d *ℤ m))
 greatest-of d m high = ≤-max-right (pos 0) (d *ℤ m)
 
 -- In a coordinate plane, an edge goes from (x, y) to (x', y'): how far the point (c, k) is on the side σ of it.

@@ -2,7 +2,7 @@
 use Rattle.std.proofs.Common.{◌≡◌, true, false, List, [], ◌∷◌, ap₂, ◌∙◌, ℤ, FitsSigned, to_z, of_z, w64}
 use lib.Signed.{le_z, lt_z}
 use Rattle.integers.specs.Within.{Withins}
-use Rattle.integers.specs.Order.{min_ℤ, max_ℤ}
+use Rattle.std.specs.Int.{int_min, int_max}
 use Rattle.integers.proofs.Omega.{zarith}
 use Rattle.integers.proofs.Expr.{var, ◌⊕◌, nth}
 use Rattle.integers.proofs.Machine.{back, run, learnt}
@@ -32,13 +32,13 @@ not-less e f h = omega zarith
 pub returns-then-low-extent : goal.returns-then-low-extent
 returns-then-low-extent c =
     let a = c.args in
-    let least-is = of-three c.requires min_ℤ c.min-least.result c.min.result (record { sfits = c.min-least.type_inv }) (record { sfits = c.min.type_inv }) c.min-least.ensures c.min.ensures in
+    let least-is = of-three c.requires int_min c.min-least.result c.min.result (record { sfits = c.min-least.type_inv }) (record { sfits = c.min.type_inv }) c.min-least.ensures c.min.ensures in
     rw (less (run (a.a0 ∷ a.a1 ∷ a.a2 ∷ a.low ∷ a.extent ∷ []) (var 3 ⊕ var 4) axis_bounds tt c.requires) least-is c.if-low-extent.true)
 
 pub returns : goal.returns
 returns c =
     let a = c.args in
-    let least-is = of-three c.requires min_ℤ c.min-least.result c.min.result (record { sfits = c.min-least.type_inv }) (record { sfits = c.min.type_inv }) c.min-least.ensures c.min.ensures in
-    let greatest-is = of-three c.requires max_ℤ c.max-2.result c.max.result (record { sfits = c.max-2.type_inv }) (record { sfits = c.max.type_inv }) c.max-2.ensures c.max.ensures in
+    let least-is = of-three c.requires int_min c.min-least.result c.min.result (record { sfits = c.min-least.type_inv }) (record { sfits = c.min.type_inv }) c.min-least.ensures c.min.ensures in
+    let greatest-is = of-three c.requires int_max c.max-2.result c.max.result (record { sfits = c.max-2.type_inv }) (record { sfits = c.max.type_inv }) c.max-2.ensures c.max.ensures in
     rw (not-less (run (a.a0 ∷ a.a1 ∷ a.a2 ∷ a.low ∷ a.extent ∷ []) (var 3 ⊕ var 4) axis_bounds tt c.requires) least-is c.if-low-extent.false)
     (ap₂ le_z (run (a.a0 ∷ a.a1 ∷ a.a2 ∷ a.low ∷ a.extent ∷ []) (var 3) axis_bounds tt c.requires) greatest-is)

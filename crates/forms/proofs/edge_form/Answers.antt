@@ -5,7 +5,7 @@ use Prim.Native.Nat.{ℕ}
 use lib.IntN.{ℤ, pos, neg_ℤ, ◌*ℤ◌}
 use mir.Facts.{to_z-of_z}
 use Rattle.integers.specs.Within.{Withins}
-use Rattle.integers.specs.Order.{max_ℤ}
+use Rattle.std.specs.Int.{int_max}
 use Rattle.integers.proofs.Expr.{Expr, var, neg, ◌⊕◌, ◌⊖◌, ◌⊗◌, eval}
 use Rattle.integers.proofs.Machine.{Asks, asks, run}
 use Rattle.integers.proofs.Bounds.{within-neg}
@@ -41,11 +41,11 @@ ins-m c =
     (rw (a-is c.before) (within-turned n (within-neg s.requires.1.0)), (rw (b-is c) (within-turned n s.requires.0), s.requires))
 
 -- how far a square reaches along m on each axis, m, and the parameters
-up-a : (c : After-max-up_a) → c.max-up_a.result ≡ max_ℤ (pos 0) c.before.before.turned-ma.result
-up-a c = c.max-up_a.ensures ∙ ap (max_ℤ (pos 0)) (run (ρm c.before) (var 0) bm tt (ins-m c.before))
+up-a : (c : After-max-up_a) → c.max-up_a.result ≡ int_max (pos 0) c.before.before.turned-ma.result
+up-a c = c.max-up_a.ensures ∙ ap (int_max (pos 0)) (run (ρm c.before) (var 0) bm tt (ins-m c.before))
 
-up-b : (c : After-max-up_b) → c.max-up_b.result ≡ max_ℤ (pos 0) c.before.before.turned-mb.result
-up-b c = let m = c.before.before in c.max-up_b.ensures ∙ ap (max_ℤ (pos 0)) (run (ρm m) (var 1) bm tt (ins-m m))
+up-b : (c : After-max-up_b) → c.max-up_b.result ≡ int_max (pos 0) c.before.before.turned-mb.result
+up-b c = let m = c.before.before in c.max-up_b.ensures ∙ ap (int_max (pos 0)) (run (ρm m) (var 1) bm tt (ins-m m))
 
 abbrev ρr : After-max-up_b → List ℤ
 ρr c = c.before.max-up_a.result ∷ c.max-up_b.result ∷ ρm c.before.before

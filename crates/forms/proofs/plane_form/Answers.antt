@@ -4,7 +4,7 @@ use mathlib.Core.Path.{◌≡◌, ◌∙◌, ap, ap₂}
 use Prim.Native.Nat.{ℕ}
 use lib.IntN.{ℤ, pos, nat_abs, ◌+ℤ◌, ◌-ℤ◌, ◌*ℤ◌}
 use Rattle.integers.specs.Within.{Withins}
-use Rattle.integers.specs.Order.{max_ℤ}
+use Rattle.std.specs.Int.{int_max}
 use Rattle.integers.proofs.Expr.{Expr, var, ◌⊕◌, ◌⊖◌, ◌⊗◌, eval}
 use Rattle.integers.proofs.Machine.{Asks, asks, run}
 use Rattle.integers.proofs.MinMax.{within-max}
@@ -47,11 +47,11 @@ ins-m c =
     (rw (x-is c.before.before) (within-turned n p.0), (rw (y-is c.before) (within-turned n p.1.0), (rw (z-is c) (within-turned n p.1.1.0), p)))
 
 -- the greater of 0 and a component, and its magnitude
-up-x : (c : After-max-up_x) → c.max-up_x.result ≡ max_ℤ (pos 0) c.before.before.before.turned-mx.result
-up-x c = c.max-up_x.ensures ∙ ap (max_ℤ (pos 0)) (run (ρm c.before) (var 0) bm tt (ins-m c.before))
+up-x : (c : After-max-up_x) → c.max-up_x.result ≡ int_max (pos 0) c.before.before.before.turned-mx.result
+up-x c = c.max-up_x.ensures ∙ ap (int_max (pos 0)) (run (ρm c.before) (var 0) bm tt (ins-m c.before))
 
-up-y : (c : After-max-up_y) → c.max-up_y.result ≡ max_ℤ (pos 0) c.before.before.before.turned-my.result
-up-y c = let m = c.before.before in c.max-up_y.ensures ∙ ap (max_ℤ (pos 0)) (run (ρm m) (var 1) bm tt (ins-m m))
+up-y : (c : After-max-up_y) → c.max-up_y.result ≡ int_max (pos 0) c.before.before.before.turned-my.result
+up-y c = let m = c.before.before in c.max-up_y.ensures ∙ ap (int_max (pos 0)) (run (ρm m) (var 1) bm tt (ins-m m))
 
 size-x : (c : After-magnitude-size_x) → c.magnitude-size_x.result ≡ pos (nat_abs c.before.before.before.before.before.turned-mx.result)
 size-x c = let m = c.before.before.before in c.magnitude-size_x.ensures ∙ ap (λ (z : ℤ). pos (nat_abs z)) (run (ρm m) (var 0) bm tt (ins-m m))
@@ -101,8 +101,8 @@ at-is c =
     let x = x-is m.before.before in
     let y = y-is m.before in
     let z = z-is m in
-    let ux = up-x c.before.before.before ∙ ap (max_ℤ (pos 0)) x in
-    let uy = up-y c.before.before ∙ ap (max_ℤ (pos 0)) y in
+    let ux = up-x c.before.before.before ∙ ap (int_max (pos 0)) x in
+    let uy = up-y c.before.before ∙ ap (int_max (pos 0)) y in
     λ i. a.extent *ℤ (ux i +ℤ uy i +ℤ z i) -ℤ (x i *ℤ a.x +ℤ y i *ℤ a.y +ℤ z i *ℤ a.z)
 
 reach-is : (c : After-magnitude-size_y) → let a = (turns c).before.before.before.args in

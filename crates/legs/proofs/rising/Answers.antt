@@ -6,7 +6,7 @@ use lib.IntN.{ℤ, pos, nat_abs, ◌-ℤ◌, ◌*ℤ◌}
 use mir.Syntax.{w64}
 use mir.Val.{to_z, of_z}
 use Rattle.integers.specs.Within.{Withins}
-use Rattle.integers.specs.Order.{max_ℤ}
+use Rattle.std.specs.Int.{int_max}
 use Rattle.integers.proofs.Expr.{Expr, var, neg, ◌⊖◌, ◌⊗◌}
 use Rattle.integers.proofs.Machine.{Asks, asks, run, bounded}
 use Rattle.integers.proofs.MinMax.{within-max}
@@ -32,9 +32,9 @@ module _ {ea eb va vb step extent : ℤ} (h : Withins slab_bounds (ea ∷ eb ∷
   ρ = ea ∷ eb ∷ va ∷ vb ∷ step ∷ extent ∷ []
 
   -- ---- the constant, where m is the greater of 0 and ea
-  module _ {m : ℤ} (e : m ≡ max_ℤ (pos 0) (to_z w64 (of_z w64 ea))) where
-    max-is : m ≡ max_ℤ (pos 0) ea
-    max-is = e ∙ ap (max_ℤ (pos 0)) (run ρ (var 0) slab_bounds tt h)
+  module _ {m : ℤ} (e : m ≡ int_max (pos 0) (to_z w64 (of_z w64 ea))) where
+    max-is : m ≡ int_max (pos 0) ea
+    max-is = e ∙ ap (int_max (pos 0)) (run ρ (var 0) slab_bounds tt h)
 
     ins-m : Withins bs (m ∷ ρ)
     ins-m = (rw max-is (within-max (pos 0) ea (record { within = zero-le }) h.0), h)

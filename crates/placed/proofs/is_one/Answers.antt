@@ -3,7 +3,7 @@ use Rattle.std.proofs.Common.{◌≡◌, ℕ, List, [], ◌∷◌, Bool, true, f
 use borrow.Author.Tests.{eq-eqb}
 use lib.Signed.{le_z, lt_z}
 use Rattle.integers.specs.Within.{Withins}
-use Rattle.integers.specs.Order.{min_ℤ, max_ℤ}
+use Rattle.std.specs.Int.{int_min, int_max}
 use Rattle.integers.proofs.Omega.{zarith}
 use Rattle.integers.proofs.Expr.{Expr, var, ◌⊕◌, ◌⊗◌, nth}
 use Rattle.integers.proofs.Machine.{mach, back, asks, run, learnt}
@@ -66,13 +66,13 @@ overflow_add-result c =
 
 pub returns-then-least-low : goal.returns-then-least-low
 returns-then-least-low c =
-    let least-is = of-three c.requires.0 min_ℤ c.min-least.result c.min.result (record { sfits = c.min-least.type_inv }) (record { sfits = c.min.type_inv }) c.min-least.ensures c.min.ensures in
+    let least-is = of-three c.requires.0 int_min c.min-least.result c.min.result (record { sfits = c.min-least.type_inv }) (record { sfits = c.min.type_inv }) c.min-least.ensures c.min.ensures in
     second _ (eq-eqb _ _ c.if-r.false) (less least-is (low-is c.requires.0 c.from_index.ensures c.requires.1) c.if-least-low.true)
 
 pub returns : goal.returns
 returns c =
     let p = c.requires in
-    let least-is = of-three p.0 min_ℤ c.min-least.result c.min.result (record { sfits = c.min-least.type_inv }) (record { sfits = c.min.type_inv }) c.min-least.ensures c.min.ensures in
-    let greatest-is = of-three p.0 max_ℤ c.max-greatest.result c.max.result (record { sfits = c.max-greatest.type_inv }) (record { sfits = c.max.type_inv }) c.max-greatest.ensures c.max.ensures in
+    let least-is = of-three p.0 int_min c.min-least.result c.min.result (record { sfits = c.min-least.type_inv }) (record { sfits = c.min.type_inv }) c.min-least.ensures c.min.ensures in
+    let greatest-is = of-three p.0 int_max c.max-greatest.result c.max.result (record { sfits = c.max-greatest.type_inv }) (record { sfits = c.max.type_inv }) c.max-greatest.ensures c.max.ensures in
     ap₂ le_z greatest-is (high-is p.0 c.from_index.ensures p.1)
     ∙ third _ (eq-eqb _ _ c.if-r.false) (not-less least-is (low-is p.0 c.from_index.ensures p.1) c.if-least-low.false)

@@ -6,7 +6,7 @@ use lib.IntN.{ℤ, pos}
 use lib.Signed.{◌<ℤ◌}
 use mir.Syntax.{w64}
 use Rattle.integers.specs.Within.{Withins}
-use Rattle.integers.specs.Order.{min_ℤ, max_ℤ}
+use Rattle.std.specs.Int.{int_min, int_max}
 use Rattle.integers.proofs.Expr.{Expr, var, nth}
 use Rattle.integers.proofs.Machine.{back, bounded, learnt, asked, run}
 use Rattle.integers.proofs.MinMax.{within-min, within-max}
@@ -21,19 +21,19 @@ abbrev ρ : Start → List ℤ
 abbrev Of : (ℤ → ℤ → ℤ) → ℤ → List ℤ → Type 0
 Of op r l = r ≡ op (nth l 0) (nth l 1)
 
-least-is : (c : After-min-least) → let a = c.before.before.args in c.min-least.result ≡ min_ℤ (min_ℤ a.a0 a.a1) a.a2
+least-is : (c : After-min-least) → let a = c.before.before.args in c.min-least.result ≡ int_min (int_min a.a0 a.a1) a.a2
 least-is c =
     let s = c.before.before in
     let m = c.before.min in
-    let two = learnt (ρ s) (Of min_ℤ m.result) (var 0 ∷ var 1 ∷ []) axis_bounds tt s.requires.0 m.ensures in
-    c.min-least.ensures ∙ ap₂ min_ℤ (back w64 m.type_inv ∙ two) (run (ρ s) (var 2) axis_bounds tt s.requires.0)
+    let two = learnt (ρ s) (Of int_min m.result) (var 0 ∷ var 1 ∷ []) axis_bounds tt s.requires.0 m.ensures in
+    c.min-least.ensures ∙ ap₂ int_min (back w64 m.type_inv ∙ two) (run (ρ s) (var 2) axis_bounds tt s.requires.0)
 
-greatest-is : (c : After-max-greatest) → let a = c.before.before.before.before.args in c.max-greatest.result ≡ max_ℤ (max_ℤ a.a0 a.a1) a.a2
+greatest-is : (c : After-max-greatest) → let a = c.before.before.before.before.args in c.max-greatest.result ≡ int_max (int_max a.a0 a.a1) a.a2
 greatest-is c =
     let s = c.before.before.before.before in
     let m = c.before.max in
-    let two = learnt (ρ s) (Of max_ℤ m.result) (var 0 ∷ var 1 ∷ []) axis_bounds tt s.requires.0 m.ensures in
-    c.max-greatest.ensures ∙ ap₂ max_ℤ (back w64 m.type_inv ∙ two) (run (ρ s) (var 2) axis_bounds tt s.requires.0)
+    let two = learnt (ρ s) (Of int_max m.result) (var 0 ∷ var 1 ∷ []) axis_bounds tt s.requires.0 m.ensures in
+    c.max-greatest.ensures ∙ ap₂ int_max (back w64 m.type_inv ∙ two) (run (ρ s) (var 2) axis_bounds tt s.requires.0)
 
 -- the arguments of `cell_range`
 abbrev σ : After-max-greatest → List ℤ

@@ -3,7 +3,7 @@ use mathlib.Core.List.{List, [], ◌∷◌}
 use Prim.Native.Nat.{ℕ}
 use lib.IntN.{ℤ}
 use Rattle.integers.specs.Within.{Withins}
-use Rattle.integers.specs.Order.{min_ℤ, max_ℤ}
+use Rattle.std.specs.Int.{int_min, int_max}
 use Rattle.integers.proofs.Expr.{Expr, var, nth}
 use Rattle.integers.proofs.Machine.{learnt}
 use Rattle.grid.specs.declared.CellRange.{CellRange}
@@ -33,7 +33,7 @@ es = var 0 ∷ var 1 ∷ var 2 ∷ var 3 ∷ var 4 ∷ var 5 ∷ []
 
 abbrev Picked : ℕ → CellRange → List ℤ → Type 0
 Picked n r l =
-    Picks n (ends_from (min_ℤ (min_ℤ (nth l 0) (nth l 1)) (nth l 2)) (nth l 3) (nth l 4) (nth l 5)) (begins_by (max_ℤ (max_ℤ (nth l 0) (nth l 1)) (nth l 2)) (nth l 3) (nth l 4)) r
+    Picks n (ends_from (int_min (int_min (nth l 0) (nth l 1)) (nth l 2)) (nth l 3) (nth l 4) (nth l 5)) (begins_by (int_max (int_max (nth l 0) (nth l 1)) (nth l 2)) (nth l 3) (nth l 4)) r
 
 pub returns : goal.returns
 returns c =

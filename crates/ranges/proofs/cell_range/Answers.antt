@@ -8,7 +8,7 @@ use lib.Signed.{◌≤ℤ◌, ◌<ℤ◌}
 use mir.Syntax.{w32, w64}
 use mir.Val.{to_z, of_z}
 use Rattle.integers.specs.Within.{Within}
-use Rattle.integers.specs.Order.{min_ℤ, max_ℤ}
+use Rattle.std.specs.Int.{int_min, int_max}
 use Rattle.integers.specs.Inner.{Floor}
 use Rattle.integers.proofs.Bounds.{within-fits, fits-within}
 use Rattle.integers.proofs.Expr.{Expr, var, num, neg, ◌⊕◌, ◌⊖◌, nth}
@@ -59,41 +59,41 @@ last_within c =
 
 -- ---- the ends
 end_is : (c : After-max-end) → let d = c.before.before in
-    c.max-end.result ≡ max_ℤ (pos 0) (min_ℤ (d.floor_div-last.result +ℤ pos 1) (pos d.before.before.before.args.cells))
+    c.max-end.result ≡ int_max (pos 0) (int_min (d.floor_div-last.result +ℤ pos 1) (pos d.before.before.before.args.cells))
 end_is c =
     let m = c.before in
     let d = m.before in
     let n = d.before.before in
     let q = d.floor_div-last.result in
     c.max-end.ensures
-    ∙ ap (max_ℤ (pos 0))
+    ∙ ap (int_max (pos 0))
     (back w64 m.min.type_inv
     ∙ m.min.ensures
-    ∙ ap₂ min_ℤ (run (q ∷ []) (var 0 ⊕ num 1) (2 ^ 31 ∷ []) tt (last_within d, tt)) (back w64 n.from_index-n.type_inv ∙ n.from_index-n.ensures))
+    ∙ ap₂ int_min (run (q ∷ []) (var 0 ⊕ num 1) (2 ^ 31 ∷ []) tt (last_within d, tt)) (back w64 n.from_index-n.type_inv ∙ n.from_index-n.ensures))
 
 first-is : (c : After-min-first) → let e = c.before.before in
-    c.min-first.result ≡ min_ℤ (max_ℤ (pos 0) (neg_ℤ e.before.before.before.floor_div-before.result)) e.max-end.result
+    c.min-first.result ≡ int_min (int_max (pos 0) (neg_ℤ e.before.before.before.floor_div-before.result)) e.max-end.result
 first-is c =
     let m = c.before in
     let e = m.before in
     let d = e.before.before.before in
     let p = d.floor_div-before.result in
     c.min-first.ensures
-    ∙ ap₂ min_ℤ
-    (back w64 m.max.type_inv ∙ m.max.ensures ∙ ap (max_ℤ (pos 0)) (run (p ∷ []) (neg (var 0)) (2 ^ 31 ∷ []) tt (before-within d, tt)))
+    ∙ ap₂ int_min
+    (back w64 m.max.type_inv ∙ m.max.ensures ∙ ap (int_max (pos 0)) (run (p ∷ []) (neg (var 0)) (2 ^ 31 ∷ []) tt (before-within d, tt)))
     (back w64 e.max-end.type_inv)
 
 -- neither is negative
 end-nn : (c : After-max-end) → pos 0 ≤ℤ c.max-end.result
 end-nn c =
     let d = c.before.before in
-    rw (end_is c) (≤-max-left (pos 0) (min_ℤ (d.floor_div-last.result +ℤ pos 1) (pos d.before.before.before.args.cells)))
+    rw (end_is c) (≤-max-left (pos 0) (int_min (d.floor_div-last.result +ℤ pos 1) (pos d.before.before.before.args.cells)))
 
 first-nn : (c : After-min-first) → pos 0 ≤ℤ c.min-first.result
 first-nn c =
     let e = c.before.before in
     let p = neg_ℤ e.before.before.before.floor_div-before.result in
-    rw (first-is c) (≤-min (max_ℤ (pos 0) p) e.max-end.result (≤-max-left (pos 0) p) (end-nn e))
+    rw (first-is c) (≤-min (int_max (pos 0) p) e.max-end.result (≤-max-left (pos 0) p) (end-nn e))
 
 pub returns : goal.returns
 returns c =
@@ -104,7 +104,7 @@ returns c =
     let a = s.args in
     let the_end = c.to_index-2.ensures ∙ back w64 e.max-end.type_inv in
     picks a.least a.greatest a.origin a.step a.extent s.requires.1 a.cells (before-is d.before) (last-is d) (the_end ∙ end_is e)
-    (c.before.to_index.ensures ∙ back w64 f.min-first.type_inv ∙ first-is f ∙ ap (min_ℤ (max_ℤ (pos 0) (neg_ℤ d.before.floor_div-before.result))) (sym the_end))
+    (c.before.to_index.ensures ∙ back w64 f.min-first.type_inv ∙ first-is f ∙ ap (int_min (int_max (pos 0) (neg_ℤ d.before.floor_div-before.result))) (sym the_end))
 
 pub overflow_sub-greatest : goal.overflow_sub-greatest
 overflow_sub-greatest c = let s = c.before.before in (asks (ρ s) high range_bounds tt s.requires.0).2
