@@ -4,7 +4,7 @@
 --     too-low, too-high               beyond an end it is not
 --     tested                          a number of the range is between the ends
 -- Assumes nothing.
-use Rattle.std.proofs.Common.{◌≡◌, ℕ, zero, suc, ◌+◌, ◌-◌, ◌*◌, ◌<◌, ◌≤◌, Bool, true, false, cond, not, ◌&&◌, ◌||◌, T, eqb, ltb, leb, ℤ, pos, negsuc, ◌-ℤ◌, neg_ℤ, sym, refl, ap, ◌∙◌, subst, true≢false, le_of_suc-le-suc, not-suc-le-zero, mul-one, arith, le→leb, eqb→eq, ltb→lt, lt→ltb, nltb→le}
+use Rattle.std.proofs.Common.{◌≡◌, Ok, Err, ℕ, zero, suc, ◌+◌, ◌-◌, ◌*◌, ◌<◌, ◌≤◌, Bool, true, false, cond, not, ◌&&◌, ◌||◌, T, eqb, ltb, leb, ℤ, pos, negsuc, ◌-ℤ◌, neg_ℤ, sym, refl, ap, ◌∙◌, subst, true≢false, le_of_suc-le-suc, not-suc-le-zero, mul-one, arith, le→leb, eqb→eq, ltb→lt, lt→ltb, nltb→le}
 use lib.IntN.{pos-+ℤ-pos, +ℤ-neg_ℤ_cancel}
 use lib.Dec.{eqb_refl}
 use lib.Arith.{lt→nleb, lt_of_le-ne}
@@ -12,8 +12,7 @@ use lib.Ieee.{Float, nan, inf, fin, binary64, up, down, add, sum, lt, le, round}
 use lib.Ieee.Fits.{down_pos, and_l, and_i}
 use lib.Ieee.Exact.{HasValue}
 use lib.Ieee.Nearest.{closest}
-use Rattle.rounding.specs.declared.Rounded.{Rounded}
-use Rattle.rounding.specs.declared.Rounded.TheVariants.{Whole, OutOfRange}
+use Rattle.rounding.specs.declared.Unrounded.TheVariants.{OutOfRange}
 use Rattle.rounding.proofs.Near.{Near, near-closest, at_most, more-than, below, not-below}
 use Rattle.rounding.proofs.Sums.{shift, shift_is, mid, plus-value, minus-value}
 use Rattle.rounding.specs.Rounding.{rounded_of, in_range, whole_of, is_whole}
@@ -92,9 +91,13 @@ sum-plus : (m : ℕ) (e : ℤ) → add binary64 (fin false m e) (fin false 3 (po
 unfolding add sum
 sum-plus m e = ap (λ (x : ℕ). round binary64 false (x + mid * down e) (down e * 1)) (mul-one (m * up e)) ∙ ap (λ (x : ℕ). round binary64 false (m * up e + mid * down e) x) (mul-one (down e))
 
-pick : (b : Bool) (x y : Float) → T b → cond b x y ≡ x
+pick : {A : Type 0} (b : Bool) (x y : A) → T b → cond b x y ≡ x
 pick true x y t = refl
 pick false x y t = absurd t
+
+skip : {A : Type 0} (b : Bool) (x y : A) → T (not b) → cond b x y ≡ y
+skip true x y t = absurd t
+skip false x y t = refl
 
 sum-minus : (m : ℕ) (e : ℤ) → m * up e * 1 < mid * down e → add binary64 (fin true m e) (fin false 3 (pos 51)) ≡ round binary64 false (mid * down e - m * up e) (down e)
 unfolding add sum
@@ -139,13 +142,9 @@ sum-le (fin false m e) l h = small (closest (m * up e) (down e)) (within-hi m e 
 
 -- the difference is the nearest whole number
 
-pick_z : (b : Bool) (x y : ℤ) → T b → cond b x y ≡ x
-pick_z true x y t = refl
-pick_z false x y t = absurd t
-
 back : (c : ℕ) → c ≤ 8192 → pos (mid - c) -ℤ pos mid ≡ neg_ℤ (pos c)
 back zero h = refl
-back (suc k) h = pick_z (ltb (mid - suc k) mid) (negsuc (mid - suc (mid - suc k))) (pos (mid - suc k - mid)) (lt→ltb (mid - suc k) mid (low k)) ∙ ap negsuc (same k h)
+back (suc k) h = pick (ltb (mid - suc k) mid) (negsuc (mid - suc (mid - suc k))) (pos (mid - suc k - mid)) (lt→ltb (mid - suc k) mid (low k)) ∙ ap negsuc (same k h)
   where
     low : (k : ℕ) → mid - suc k < mid
     low k = omega arith
@@ -160,14 +159,6 @@ difference (fin true m e) l h = back (closest (m * up e) (down e)) (within-lo m 
 difference (fin false m e) l h = ap (λ (z : ℤ). z -ℤ pos mid) (sym (pos-+ℤ-pos (closest (m * up e) (down e)) mid)) ∙ +ℤ-neg_ℤ_cancel (pos (closest (m * up e) (down e))) (pos mid)
 
 -- ---- `rounded_of` in each case
-
-pick_r : (b : Bool) (x y : Rounded) → T b → cond b x y ≡ x
-pick_r true x y t = refl
-pick_r false x y t = absurd t
-
-skip_r : (b : Bool) (x y : Rounded) → T (not b) → cond b x y ≡ y
-skip_r true x y t = absurd t
-skip_r false x y t = refl
 
 in-lo : (c : ℕ) → c ≤ 8192 → T (in_range (neg_ℤ (pos c)))
 in-lo zero h = tt
@@ -187,10 +178,10 @@ ranged (inf s) l h = absurd (no-inf s l h)
 ranged (fin true m e) l h = in-lo (closest (m * up e) (down e)) (within-lo m e l)
 ranged (fin false m e) l h = le→leb (closest (m * up e) (down e)) 8191 (within-hi m e h)
 
-pub in-range : (x : Float) → T (le lowest x) → T (lt x highest) → rounded_of x ≡ Whole (whole_of x)
+pub in-range : (x : Float) → T (le lowest x) → T (lt x highest) → rounded_of x ≡ Ok (whole_of x)
 in-range nan l h = absurd (no_nan h)
 in-range (inf s) l h = absurd (no-inf s l h)
-in-range (fin s m e) l h = pick_r (in_range (whole_of (fin s m e))) (Whole (whole_of (fin s m e))) OutOfRange (ranged (fin s m e) l h)
+in-range (fin s m e) l h = pick (in_range (whole_of (fin s m e))) (Ok (whole_of (fin s m e))) (Err OutOfRange) (ranged (fin s m e) l h)
 
 nor-l : (x y : Bool) → T (not (x || y)) → T (not x)
 nor-l true y h = h
@@ -204,31 +195,26 @@ no-hi : (m : ℕ) (e : ℤ) → T (not (lt (fin true m e) highest)) → ⊥
 unfolding lt
 no-hi m e h = let d = down_pos e in let z = nltb→le 0 (m * up e * 2 + 16383 * 1 * down e) h in omega arith
 
-pub too-low : (x : Float) → T (not (le lowest x)) → rounded_of x ≡ refused_as x
+pub too-low : (x : Float) → T (not (le lowest x)) → rounded_of x ≡ Err (refused_as x)
 too-low nan h = refl
 too-low (inf s) h = refl
 too-low (fin true m e) h =
     let c = closest (m * up e) (down e) in
-    skip_r (in_range (neg_ℤ (pos c))) (Whole (neg_ℤ (pos c))) OutOfRange (out-lo c (more-than (m * up e) (down e) c (down_pos e) (near m e) (lo-no m e h)))
+    skip (in_range (neg_ℤ (pos c))) (Ok (neg_ℤ (pos c))) (Err OutOfRange) (out-lo c (more-than (m * up e) (down e) c (down_pos e) (near m e) (lo-no m e h)))
 too-low (fin false m e) h = absurd (no-lo m e h)
 
-pub too-high : (x : Float) → T (not (lt x highest)) → rounded_of x ≡ refused_as x
+pub too-high : (x : Float) → T (not (lt x highest)) → rounded_of x ≡ Err (refused_as x)
 too-high nan h = refl
 too-high (inf s) h = refl
 too-high (fin true m e) h = absurd (no-hi m e h)
 too-high (fin false m e) h =
     let c = closest (m * up e) (down e) in
-    skip_r (leb c 8191) (Whole (pos c)) OutOfRange (lt→nleb c 8191 (not-below (m * up e) (down e) c (down_pos e) (near m e) (hi-no m e h)))
+    skip (leb c 8191) (Ok (pos c)) (Err OutOfRange) (lt→nleb c 8191 (not-below (m * up e) (down e) c (down_pos e) (near m e) (hi-no m e h)))
 
 -- ---- back: a number of the range is between the ends
-no_whole : (x : Float) → is_whole (refused_as x) ≡ false
-no_whole nan = refl
-no_whole (inf s) = refl
-no_whole (fin s m e) = refl
-
-by-test : (x : Float) (b : Bool) → is_whole (rounded_of x) ≡ true → (T (not b) → rounded_of x ≡ refused_as x) → T b
+by-test : (x : Float) (b : Bool) → is_whole (rounded_of x) ≡ true → (T (not b) → rounded_of x ≡ Err (refused_as x)) → T b
 by-test x true w f = tt
-by-test x false w f = absurd (true≢false (sym w ∙ ap is_whole (f tt) ∙ no_whole x))
+by-test x false w f = absurd (true≢false (sym w ∙ ap is_whole (f tt)))
 
 pub tested : (x : Float) → is_whole (rounded_of x) ≡ true → T (le lowest x) × T (lt x highest)
 tested x w = (by-test x (le lowest x) w (too-low x), by-test x (lt x highest) w (too-high x))

@@ -2,6 +2,5 @@ pub mod Near
 pub mod Sums
 pub mod Cases
 pub mod Casts
-pub mod Infinite
 pub mod Meaning
 pub mod Wholes

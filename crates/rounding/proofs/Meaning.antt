@@ -3,13 +3,13 @@
 --     says, told      so each answer says what it means
 --     whole_back      a number of the range, as its answer
 -- Assumes nothing.
-use Rattle.std.proofs.Common.{◌≡◌, ℕ, zero, suc, ◌+◌, ◌-◌, ◌*◌, ◌%◌, ◌<◌, ◌≤◌, Bool, true, false, cond, not, T, ltb, ℤ, pos, negsuc, ◌-ℤ◌, ◌*ℤ◌, neg_ℤ, nat_abs, sym, refl, ap, ◌∙◌, subst, true≢false, zero-mul, arith, ltb→lt, nltb→le}
+use Rattle.std.proofs.Common.{◌≡◌, Result, Ok, Err, ℕ, zero, suc, ◌+◌, ◌-◌, ◌*◌, ◌%◌, ◌<◌, ◌≤◌, Bool, true, false, cond, not, T, ltb, ℤ, pos, negsuc, ◌-ℤ◌, ◌*ℤ◌, neg_ℤ, nat_abs, sym, refl, ap, ◌∙◌, subst, true≢false, zero-mul, arith, ltb→lt, nltb→le}
 use lib.IntN.{neg_ℤ-neg_ℤ, neg_ℤ-+ℤ}
 use lib.Ieee.{Float, nan, inf, fin, up, down}
 use lib.Ieee.Fits.{down_pos}
 use lib.Ieee.Nearest.{closest}
-use Rattle.rounding.specs.declared.Rounded.{Rounded}
-use Rattle.rounding.specs.declared.Rounded.TheVariants.{Whole, NotFinite, OutOfRange}
+use Rattle.rounding.specs.declared.Unrounded.{Unrounded}
+use Rattle.rounding.specs.declared.Unrounded.TheVariants.{OutOfRange}
 use Rattle.rounding.specs.Rounding.{finite, scaled, unit, Nearest, whole_of, in_range, rounded_of, is_whole, millimetres, Says}
 use Rattle.rounding.proofs.Near.{Near, near-closest}
 
@@ -76,16 +76,15 @@ says nan = tt
 says (inf s) = tt
 says (fin s m e) = go (in_range (whole_of (fin s m e))) refl
   where
-    go : (b : Bool) → in_range (whole_of (fin s m e)) ≡ b → Says (fin s m e) (cond b (Whole (whole_of (fin s m e))) OutOfRange)
+    go : (b : Bool) → in_range (whole_of (fin s m e)) ≡ b → Says (fin s m e) (cond b (Ok (whole_of (fin s m e))) (Err OutOfRange))
     go true t = record { exact = tt; nearest = whole-nearest (fin s m e) tt; ranged = subst T (sym t) tt }
     go false t = (tt, whole-nearest (fin s m e) tt, subst (λ (b : Bool). T (not b)) (sym t) tt)
 
 -- The promise of `nearest`, by its answer.
-pub told : (x : Float) {r : Rounded} → r ≡ rounded_of x → (r ≡ rounded_of x) × Says x r
+pub told : (x : Float) {r : Result ℤ Unrounded} → r ≡ rounded_of x → (r ≡ rounded_of x) × Says x r
 told x e = (e, subst (Says x) (sym e) (says x))
 
 -- A number of the range, as its answer.
-pub whole_back : (y : Rounded) → is_whole y ≡ true → Whole (millimetres y) ≡ y
-whole_back (Whole r) e = refl
-whole_back NotFinite e = absurd (true≢false (sym e))
-whole_back OutOfRange e = absurd (true≢false (sym e))
+pub whole_back : (y : Result ℤ Unrounded) → is_whole y ≡ true → Ok (millimetres y) ≡ y
+whole_back (Ok r) e = refl
+whole_back (Err why) e = absurd (true≢false (sym e))

@@ -1,15 +1,13 @@
--- What an `i32` is as an `f64`, exactly, and what `widen` answers in each case.
+-- What an `i32` is as an `f64`, exactly.
 --     int-value                     an integer of fewer than 54 digits is a float exactly
---     as-float, as-double, as_int   the cases of a number
---     same                          a vertex by its three numbers
+--     as_int                        what `widen` answers of an `i32`
 -- Assumes nothing.
 use Rattle.std.proofs.Common.{◌≡◌, ℕ, suc, ◌*◌, ◌^◌, ◌<◌, Bool, true, false, ℤ, pos, negsuc, neg_ℤ, sym, ap, ◌∙◌, subst, true≢false, lt_of_lt_of_le, zero-lt-suc, mul-one, arith, lit≤, shl_lt}
 use lib.Signed.{mag}
 use lib.Ieee.{Float as F, nan, inf, fin, binary64, low, up, of_int, round}
 use lib.Ieee.Exact.{HasValue, round_exact}
 use Rattle.rounding.specs.declared.Number.{Number}
-use Rattle.rounding.specs.declared.Number.TheVariants.{Float, Double, Int}
-use Rattle.rounding.specs.declared.Vertex.{Vertex}
+use Rattle.rounding.specs.declared.Number.TheVariants.{Int}
 use Rattle.rounding.specs.Widening.{Equals, SameValue, widened_of}
 
 -- ---- an integer of fewer than 54 digits is a float exactly
@@ -39,20 +37,6 @@ int-value (negsuc n) h = of-neg (round binary64 true (suc n) 1) n (exact true (s
     next : n < 2147483648 → suc n < 2147483649
     next h = omega arith
 
--- ---- what `widen` answers in each case
--- what is promised of the answer
-abbrev Widened : F → Number → Type 0
-Widened r n = (r ≡ widened_of n) × SameValue n r
-
-module _ {n : Number} {r : F} where
-  pub as-float : (x : F) → n ≡ Float x → r ≡ x → Widened r n
-  as-float x e h = subst (λ (y : Number). Widened r y) (sym e) (h, h)
-
-  pub as-double : (x : F) → n ≡ Double x → r ≡ x → Widened r n
-  as-double x e h = subst (λ (y : Number). Widened r y) (sym e) (h, h)
-
-  pub as_int : (k : ℤ) {j : ℤ} → n ≡ Int k → j ≡ k → (r ≡ of_int binary64 j) × Equals r j → Widened r n
-  as_int k e h v = subst (λ (y : Number). Widened r y) (sym e) (subst (λ (i : ℤ). (r ≡ of_int binary64 i) × Equals r i) h v)
-
-pub same : {x y z u v w : F} → x ≡ u → y ≡ v → z ≡ w → ◌≡◌ {A = Vertex} (record { x = x; y = y; z = z }) (record { x = u; y = v; z = w })
-same p q r = cc
+-- ---- what `widen` answers of an `i32`
+pub as_int : {n : Number} {r : F} (k : ℤ) → n ≡ Int k → mag k < 2147483648 → r ≡ of_int binary64 k → (r ≡ widened_of n) × SameValue n r
+as_int {r} k e h v = rw e (v, subst (λ (x : F). Equals x k) (sym v) (int-value k h))

@@ -1,10 +1,10 @@
 -- The whole number nearest to a float, a half going to the even one. Definitions only; no real numbers are used.
-use Rattle.std.specs.Prelude.{◌≡◌, ℕ, ◌*◌, ◌%◌, ◌≤◌, Bool, true, false, cond, not, ◌&&◌, T, ℤ, pos, negsuc, ◌-ℤ◌, ◌*ℤ◌, neg_ℤ, int_le, unsigned_abs, Float}
+use Rattle.std.specs.Prelude.{◌≡◌, ℕ, ◌*◌, ◌%◌, ◌≤◌, Bool, true, false, cond, not, ◌&&◌, T, ℤ, pos, negsuc, ◌-ℤ◌, ◌*ℤ◌, neg_ℤ, int_le, unsigned_abs, Float, Result, Ok, Err}
 use Rattle.std.specs.Float.{nan, inf, fin}
 use Rattle.std.specs.Float.Ieee.{up, down}
 use Rattle.std.specs.Float.Ieee.Nearest.{closest}
-use Rattle.rounding.specs.declared.Rounded.{Rounded}
-use Rattle.rounding.specs.declared.Rounded.TheVariants.{Whole, NotFinite, OutOfRange}
+use Rattle.rounding.specs.declared.Unrounded.{Unrounded}
+use Rattle.rounding.specs.declared.Unrounded.TheVariants.{NotFinite, OutOfRange}
 
 -- ---- the exact value
 -- A float is not a number, or infinite with a sign, or finite: `fin s m e` is the significand m times 2 ^ e, negative where s is true.
@@ -46,22 +46,20 @@ abbrev pub in_range : ℤ → Bool
 in_range r = int_le (negsuc 8191) r && int_le r (pos 8191)
 
 -- What a float is rounded to, "infinite or not a number" and "outside" told apart.
-abbrev pub rounded_of : Float → Rounded
-rounded_of nan = NotFinite
-rounded_of (inf s) = NotFinite
-rounded_of (fin s m e) = cond (in_range (whole_of (fin s m e))) (Whole (whole_of (fin s m e))) OutOfRange
+abbrev pub rounded_of : Float → Result ℤ Unrounded
+rounded_of nan = Err NotFinite
+rounded_of (inf s) = Err NotFinite
+rounded_of (fin s m e) = cond (in_range (whole_of (fin s m e))) (Ok (whole_of (fin s m e))) (Err OutOfRange)
 
 -- Is there a whole number?
-abbrev pub is_whole : Rounded → Bool
-is_whole (Whole r) = true
-is_whole NotFinite = false
-is_whole OutOfRange = false
+abbrev pub is_whole : Result ℤ Unrounded → Bool
+is_whole (Ok r) = true
+is_whole (Err why) = false
 
 -- It, and 0 where there is none.
-abbrev pub millimetres : Rounded → ℤ
-millimetres (Whole r) = r
-millimetres NotFinite = pos 0
-millimetres OutOfRange = pos 0
+abbrev pub millimetres : Result ℤ Unrounded → ℤ
+millimetres (Ok r) = r
+millimetres (Err why) = pos 0
 
 -- ---- what each answer means
 pub record Rounds (x : Float) (r : ℤ) : Type 0 where
@@ -69,7 +67,7 @@ pub record Rounds (x : Float) (r : ℤ) : Type 0 where
   pub nearest : Nearest (scaled x) (unit x) r
   pub ranged : T (in_range r)
 
-abbrev pub Says : Float → Rounded → Type 0
-Says x (Whole r) = Rounds x r
-Says x NotFinite = T (not (finite x))
-Says x OutOfRange = T (finite x) × Nearest (scaled x) (unit x) (whole_of x) × T (not (in_range (whole_of x)))
+abbrev pub Says : Float → Result ℤ Unrounded → Type 0
+Says x (Ok r) = Rounds x r
+Says x (Err NotFinite) = T (not (finite x))
+Says x (Err OutOfRange) = T (finite x) × Nearest (scaled x) (unit x) (whole_of x) × T (not (in_range (whole_of x)))

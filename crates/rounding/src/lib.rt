@@ -3,10 +3,8 @@
 #![tactic(auto)]
 
 ghost use Rattle.std.specs.Prelude.{◌≡◌, true};
-ghost use Rattle.std.specs.Float.{binary64};
-ghost use Rattle.std.specs.Float.Ieee.{of_int};
 ghost use Rattle.rounding.specs.Rounding.{rounded_of, Says, is_whole, millimetres};
-ghost use Rattle.rounding.specs.Widening.{Equals, SameValue, widened_of, widened_vertex};
+ghost use Rattle.rounding.specs.Widening.{SameValue, widened_of, widened_vertex};
 ghost use Rattle.rounding.specs.Inner.{refused_as};
 
 // A number of a file, of the type that its property says.
@@ -25,19 +23,11 @@ pub struct Vertex {
     pub z: f64,
 }
 
-// What a number is rounded to: a whole number from -8,192 to 8,191; or why there is none.
-#[derive(Clone, Copy)]
-pub enum Rounded {
-    Whole(i32),
+// Why a number rounds to no whole number from -8,192 to 8,191.
+#[derive(Clone, Copy, Debug, PartialEq, Eq)]
+pub enum Unrounded {
     NotFinite,
     OutOfRange,
-}
-
-// The same whole number as an `f64`.
-fn from_int(k: i32) -> f64
-    ensures { (result ≡ of_int binary64 k) × Equals result k }
-{
-    k as f64
 }
 
 // The same number as an `f64`. An infinity stays one, and what is not a number stays so.
@@ -45,9 +35,9 @@ pub fn widen(n: Number) -> f64
     ensures { (result ≡ widened_of n) × SameValue n result }
 {
     match n {
-        Number::Float(x) => std::num::f32_to_f64_with_nan(x),
+        Number::Float(x) => f64::from(x),
         Number::Double(x) => x,
-        Number::Int(k) => from_int(k),
+        Number::Int(k) => f64::from(k),
     }
 }
 
@@ -66,18 +56,13 @@ pub fn widened(x: Number, y: Number, z: Number) -> Vertex
 }
 
 // Why a number that rounds to none of the range is refused.
-fn refused(x: f64) -> Rounded
+fn refused(x: f64) -> Unrounded
     ensures { result ≡ refused_as x }
 {
-    let infinite = 1.0 / 0.0;
-    if x < infinite {
-        if -infinite < x {
-            Rounded::OutOfRange
-        } else {
-            Rounded::NotFinite
-        }
+    if x.is_finite() {
+        Unrounded::OutOfRange
     } else {
-        Rounded::NotFinite
+        Unrounded::NotFinite
     }
 }
 
@@ -92,17 +77,13 @@ pub fn whole(x: f64) -> i32
 }
 
 // The nearest whole number, a half to the even one, where it is one from -8,192 to 8,191.
-pub fn nearest(x: f64) -> Rounded
+pub fn nearest(x: f64) -> Result<i32, Unrounded>
     ensures { (result ≡ rounded_of x) × Says x result }
 {
-    if x >= -8192.5 {
-        if x < 8191.5 {
-            Rounded::Whole(whole(x))
-        } else {
-            refused(x)
-        }
+    if x >= -8192.5 && x < 8191.5 {
+        Ok(whole(x))
     } else {
-        refused(x)
+        Err(refused(x))
     }
 }
 
@@ -110,9 +91,5 @@ pub fn nearest(x: f64) -> Rounded
 pub fn is_whole(x: f64) -> bool
     ensures { result ≡ is_whole (rounded_of x) }
 {
-    match nearest(x) {
-        Rounded::Whole(_) => true,
-        Rounded::NotFinite => false,
-        Rounded::OutOfRange => false,
-    }
+    nearest(x).is_ok()
 }

@@ -1,16 +1,25 @@
--- `rounding::refused`: the tests against the infinities tell what a float is.
-use lib.Ieee.{of_bits, neg, div}
-use Rattle.rounding.proofs.Infinite.{finite-is, not-above, not-below}
+-- `rounding::refused`: what is finite is outside the range.
+use Rattle.std.proofs.Common.{◌≡◌, true, false, refl, sym, true≢false}
+use lib.Ieee.{Float, nan, inf, fin}
+use Rattle.std.specs.Float.{float_is_finite}
+use Rattle.rounding.specs.declared.Unrounded.TheVariants.{NotFinite, OutOfRange}
+use Rattle.rounding.specs.Inner.{refused_as}
 use Rattle.rounding.proofs.refused.Goals as goal
 
-pub returns-then-infinite-x : goal.returns-then-infinite-x
-unfolding of_bits neg div
-returns-then-infinite-x c = finite-is _ c.if-x-infinite.true c.if-infinite-x.true
+finite : (x : Float) → float_is_finite x ≡ true → OutOfRange ≡ refused_as x
+unfolding float_is_finite
+finite nan e = absurd (true≢false (sym e))
+finite (inf s) e = absurd (true≢false (sym e))
+finite (fin s m k) e = refl
 
-pub returns-else-infinite-x : goal.returns-else-infinite-x
-unfolding of_bits neg div
-returns-else-infinite-x c = not-above _ c.if-infinite-x.false
+other : (x : Float) → float_is_finite x ≡ false → NotFinite ≡ refused_as x
+unfolding float_is_finite
+other nan e = refl
+other (inf s) e = refl
+other (fin s m k) e = absurd (true≢false e)
 
-pub returns-else-x-infinite : goal.returns-else-x-infinite
-unfolding of_bits neg div
-returns-else-x-infinite c = not-below _ c.if-x-infinite.false
+pub returns-then-is_finite : goal.returns-then-is_finite
+returns-then-is_finite c = finite c.args.x (cc)
+
+pub returns-else-is_finite : goal.returns-else-is_finite
+returns-else-is_finite c = other c.args.x (cc)
