@@ -13,11 +13,7 @@ use native.Mathlib.Nat.{add_assoc, add-zero, add-suc, mul_assoc, div-one, div-eq
 use native.Mathlib.Omega.{arith}
 use lib.ListN.{get_or}
 use lib.Pow.{pow-lt, high, low, shr-shr}
-use Rattle.bits.specs.Field.{bit_at, field_at, signed_at}
-use Rattle.bits.specs.Inner.{Taken, TakenSigned}
-use Rattle.bits.specs.declared.Cursor.{Cursor}
-use Rattle.bits.specs.declared.Field.{Field}
-use Rattle.bits.specs.declared.SignedField.{SignedField}
+use Rattle.bits.specs.Field.{bit_at, field_at}
 
 pub field_lt : (s : List ℕ) (p w : ℕ) → field_at s p w < 2 ^ w
 unfolding field_at bit_at
@@ -75,10 +71,3 @@ field-of-word s p w h =
 -- ---- a shift of 1 in a word of b bits
 pub one_shl : (b w : ℕ) → w < b → 1 * 2 ^ w % 2 ^ b ≡ 2 ^ w
 one_shl b w h = rw one-mul (mod-eq_of_lt (pow-lt h))
-
--- ---- what a cursor took, at a position that is known by another name
-pub taken-value : {s : List ℕ} {c : Cursor} {w : ℕ} {r : Field} → Taken s c w r → (p : ℕ) → c.at ≡ p → r.value ≡ field_at s p w
-taken-value {s} {w = w} t p e = t.value ∙ ap (λ (p : ℕ). field_at s p w) e
-
-pub taken-signed-value : {s : List ℕ} {c : Cursor} {w : ℕ} {r : SignedField} → TakenSigned s c w r → (p : ℕ) → c.at ≡ p → r.value ≡ signed_at s p w
-taken-signed-value {s} {w = w} t p e = t.value ∙ ap (λ (p : ℕ). signed_at s p w) e

@@ -41,60 +41,57 @@ pub join-lt : (a b j w : ℕ) → a < 2 ^ j → b < 2 ^ w → a * 2 ^ w + b < 2 
 join-lt a b j w h k = rw (pow-add 2 j w) (omega (arith, add-mul 1 a (2 ^ w), mul-le-mul_right {m = 1 + a} {n = 2 ^ j} (2 ^ w) (omega arith)))
 
 -- ---- the whole bytes go out
-pub record Turn (N K : ℕ) (old out : List ℕ) (p : Pen) : Type 0 where
-  pub grown : pen_bits p ≡ K
-  pub wide : p.bits < 33
-  pub small : p.held < 2 ^ p.bits
-  pub holds : pen_number out p ≡ N
-  pub behind : drop p.at out ≡ drop p.at old
+pub record Turn (N K : ℕ) (old out : List ℕ) (at bits held : ℕ) : Type 0 where
+  pub grown : at * 8 + bits ≡ K
+  pub wide : bits < 33
+  pub small : held < 2 ^ bits
+  pub holds : field_at out 0 (at * 8) * 2 ^ bits + held ≡ N
+  pub behind : drop at out ≡ drop at old
   pub same : length out ≡ length old
   pub room : K ≤ length old * 8
 
 module _ {s : List ℕ} {p : Pen} {w v : ℕ} (r : Room s p w) (fit : v < 2 ^ w) where
   shifted : p.held * 2 ^ w % 2 ^ 64 ≡ p.held * 2 ^ w
-  shifted = shl_exact p.bits w 64 r.tidy.small (omega (arith, r.tidy.few, r.narrow))
+  shifted = shl_exact p.bits w 64 p.small (omega (arith, p.few, r.narrow))
 
   pub joined-lt : p.held * 2 ^ w % 2 ^ 64 + v < 2 ^ 33
   joined-lt =
-      rw shifted
-      (omega (arith, join-lt p.held v p.bits w r.tidy.small fit, pow_mono {i = p.bits + w} {j = 33} (omega (arith, r.tidy.few, r.narrow))))
+      rw shifted (omega (arith, join-lt p.held v p.bits w p.small fit, pow_mono {i = p.bits + w} {j = 33} (omega (arith, p.few, r.narrow))))
 
-  pub begins : Turn (pen_number s p * 2 ^ w + v) (pen_bits p + w) s s (record { at = p.at; bits = p.bits + w; held = p.held * 2 ^ w % 2 ^ 64 + v })
+  pub begins : Turn (pen_number s p * 2 ^ w + v) (pen_bits p + w) s s p.at (p.bits + w) (p.held * 2 ^ w % 2 ^ 64 + v)
   begins =
       let n = field_at s 0 (p.at * 8) in
       record {
         grown = omega arith;
-        wide = omega (arith, r.tidy.few, r.narrow);
-        small = rw shifted (join-lt p.held v p.bits w r.tidy.small fit);
+        wide = omega (arith, p.few, r.narrow);
+        small = rw shifted (join-lt p.held v p.bits w p.small fit);
         holds = rw (shifted, pow-add 2 p.bits w, ← mul_assoc n (2 ^ p.bits) (2 ^ w), add-mul (n * 2 ^ p.bits) p.held (2 ^ w)) (omega arith);
         behind = refl;
         same = refl;
         room = r.room;
       }
 
-module _ {N K : ℕ} {old out : List ℕ} {p : Pen} (t : Turn N K old out p) (h : 8 ≤ p.bits) where
-  pub byte-lt : p.held / 2 ^ (p.bits - 8) < 256
-  byte-lt =
-      shr_lt 8 (p.bits - 8) (lt_of_lt_of_le t.small (pow_mono {i = p.bits} {j = 8 + (p.bits - 8)} (omega arith)))
+module _ {N K : ℕ} {old out : List ℕ} {at bits held : ℕ} (t : Turn N K old out at bits held) (h : 8 ≤ bits) where
+  pub byte-lt : held / 2 ^ (bits - 8) < 256
+  byte-lt = shr_lt 8 (bits - 8) (lt_of_lt_of_le t.small (pow_mono {i = bits} {j = 8 + (bits - 8)} (omega arith)))
 
-  pub turns : let k = p.bits - 8 in
-      Turn N K old (set out p.at (p.held / 2 ^ k)) (record { at = p.at + 1; bits = k; held = p.held % (1 * 2 ^ k % 2 ^ 64) })
+  pub turns : let k = bits - 8 in
+      Turn N K old (set out at (held / 2 ^ k)) (at + 1) k (held % (1 * 2 ^ k % 2 ^ 64))
   turns =
-      let at = p.at in
-      let k = p.bits - 8 in
-      let b = p.held / 2 ^ k in
+      let k = bits - 8 in
+      let b = held / 2 ^ k in
       let n = field_at out 0 (at * 8) in
-      let all : p.bits ≡ 8 + k = omega arith in
+      let all : bits ≡ 8 + k = omega arith in
       let one : 1 * 2 ^ k % 2 ^ 64 ≡ 2 ^ k = one_shl 64 k (omega (arith, t.wide)) in
       record {
         grown = omega (arith, t.grown);
         wide = omega (arith, t.wide);
-        small = rw one (mod-lt p.held (pow_pos k));
+        small = rw one (mod-lt held (pow_pos k));
         holds =
-            let whole : n * 2 ^ p.bits + p.held ≡ n * 256 * 2 ^ k + p.held =
-            ap (λ (x : ℕ). n * 2 ^ x + p.held) all ∙ rw (pow-add 2 8 k, mul_assoc n 256 (2 ^ k)) in
+            let whole : n * 2 ^ bits + held ≡ n * 256 * 2 ^ k + held =
+            ap (λ (x : ℕ). n * 2 ^ x + held) all ∙ rw (pow-add 2 8 k, mul_assoc n 256 (2 ^ k)) in
             rw (one, add-one at, byte-set out at b (omega (arith, t.room, t.grown, t.same)) byte-lt, add-mul (n * 256) b (2 ^ k))
-            (omega (arith, split p.held k, whole, t.holds));
+            (omega (arith, split held k, whole, t.holds));
         behind = drop-set-lt (at + 1) out at b (omega arith) ∙ (sym (drop-drop 1 at out) ∙ ap (drop 1) t.behind ∙ drop-drop 1 at old);
         same = length-set out at b ∙ t.same;
         room = t.room;

@@ -3,99 +3,56 @@
 // A field that is read may run over the end of the slice: the bits there are 0.
 #![tactic(auto)]
 
-ghost use Rattle.std.specs.Prelude.{◌≡◌, ◌+◌, ◌-◌, ◌*◌, ◌/◌, ◌%◌, ◌<◌, ◌≤◌, ◌^◌, get_or, length};
+ghost use Rattle.std.specs.Prelude.{List, ℕ, ◌≡◌, ◌+◌, ◌-◌, ◌*◌, ◌/◌, ◌%◌, ◌<◌, ◌≤◌, ◌^◌, get_or, length};
 ghost use Rattle.integers.specs.Within.{Within};
-ghost use Rattle.bits.specs.Field.{field_at, twos_complement, complement_of};
-ghost use Rattle.bits.specs.Inner.{Taken, TakenSigned, Room, Put};
+ghost use Rattle.bits.specs.Field.{field_at, signed_at, twos_complement, complement_of};
 
-// A position in a string of bits, counted from the first byte's highest bit.
-#[derive(Clone, Copy)]
-pub struct Cursor {
-    pub at: usize,
+// Bytes whose bits a cursor reads.
+pub trait Source: Copy {
+    // The bytes, and at how many places a word of four of them can be had.
+    ghost bytes: { Self → List ℕ };
+
+    ghost words: { Self → ℕ };
+
+    // The four bytes from byte i on, as one number.
+    fn word(self, i: usize) -> u32
+        requires { i < words self }
+        ensures { result ≡ field_at (bytes self) (i * 8) 32 };
 }
 
-// An unsigned field, and the cursor behind it.
-#[derive(Clone, Copy)]
-pub struct Field {
-    pub value: u32,
-    pub next: Cursor,
-}
+// Bytes that a word may run over the end of: those past it are 0.
+impl Source for &[u8] {
+    ghost bytes = { λ s. s.now };
 
-// A signed field, and the cursor behind it.
-#[derive(Clone, Copy)]
-pub struct SignedField {
-    pub value: i64,
-    pub next: Cursor,
-}
+    ghost words = { λ s. 2 ^ 61 };
 
-impl Cursor {
-    // The cursor at the first bit.
-    pub fn new() -> Cursor
-        ensures { result.at ≡ 0 }
-    {
-        Cursor { at: 0 }
-    }
-
-    // The unsigned field of `width` bits at the cursor. Four bytes hold any 25 bits.
-    pub fn take(mut self, s: &[u8], width: usize) -> Field
-        requires { (1 ≤ width) × (width ≤ 25) × (self.at + width < 2 ^ 64) }
-        ensures { Taken s.now self width result }
-    {
-        let at = self.at;
-        let word = word_at(s, at / 8);
-        let value = part_of(word, at % 8, width);
-        self.at = at + width;
-        Field { value, next: self }
-    }
-
-    // The signed field of `width` bits at the cursor.
-    pub fn take_signed(mut self, s: &[u8], width: usize) -> SignedField
-        requires { (1 ≤ width) × (width ≤ 25) × (self.at + width < 2 ^ 64) }
-        ensures { TakenSigned s.now self width result }
-    {
-        let field = self.take(s, width);
-        self.at = self.at + width;
-        SignedField {
-            value: sign_extend(field.value, width),
-            next: self,
+    fn word(self, i: usize) -> u32 {
+        if i + 3 < self.len() {
+            return whole_word(self, i);
         }
-    }
-
-    // The same, where the four bytes from the cursor's on are there, so that no length is looked at.
-    pub fn take_inside(mut self, s: &[u8], width: usize) -> SignedField
-        requires { (1 ≤ width) × (width ≤ 25) × (self.at + width < 2 ^ 64) × (self.at / 8 + 3 < length s.now) }
-        ensures { TakenSigned s.now self width result }
-    {
-        let at = self.at;
-        let word = whole_word(s, at / 8);
-        let value = part_of(word, at % 8, width);
-        self.at = at + width;
-        SignedField {
-            value: sign_extend(value, width),
-            next: self,
-        }
+        u32::from_be_bytes([
+            byte_at(self, i),
+            byte_at(self, i + 1),
+            byte_at(self, i + 2),
+            byte_at(self, i + 3),
+        ])
     }
 }
 
-// The `width` bits of a word behind its first `skip` bits.
-fn part_of(word: u32, skip: usize, width: usize) -> u32
-    requires { (1 ≤ width) × (width ≤ 25) × (skip < 8) }
-    ensures { result ≡ word / 2 ^ (32 - skip - width) % 2 ^ width }
-{
-    (word >> (32 - skip - width)) % (1u32 << width)
+// Bytes that hold every word that is asked for, so that no length is looked at.
+#[derive(Clone, Copy)]
+pub struct Inside<'a> {
+    pub bytes: &'a [u8],
 }
 
-// The four bytes from byte i on, as one number. Near the end of the slice they are taken one by one.
-fn word_at(s: &[u8], i: usize) -> u32
-    requires { i + 4 < 2 ^ 64 }
-    ensures { result ≡ field_at s.now (i * 8) 32 }
-{
-    if i + 3 < s.len() {
-        return whole_word(s, i);
+impl Source for Inside<'_> {
+    ghost bytes = { λ s. s.bytes.now };
+
+    ghost words = { λ s. length s.bytes.now - 3 };
+
+    fn word(self, i: usize) -> u32 {
+        whole_word(self.bytes, i)
     }
-    let high = byte_at(s, i) * 256 + byte_at(s, i + 1);
-    let low = byte_at(s, i + 2) * 256 + byte_at(s, i + 3);
-    high * 65536 + low
 }
 
 // Four bytes that are there, as one number: one look at the length serves all four.
@@ -103,24 +60,54 @@ fn whole_word(s: &[u8], i: usize) -> u32
     requires { i + 3 < length s.now }
     ensures { result ≡ field_at s.now (i * 8) 32 }
 {
-    let high = byte(s, i) * 256 + byte(s, i + 1);
-    let low = byte(s, i + 2) * 256 + byte(s, i + 3);
-    high * 65536 + low
-}
-
-// Byte i, which is there.
-fn byte(s: &[u8], i: usize) -> u32
-    requires { i < length s.now }
-    ensures { (result ≡ get_or s.now i 0) × (result < 256) }
-{
-    s[i] as u32
+    u32::from_be_bytes([s[i], s[i + 1], s[i + 2], s[i + 3]])
 }
 
 // Byte i, or 0 past the end.
-fn byte_at(s: &[u8], i: usize) -> u32
-    ensures { (result ≡ get_or s.now i 0) × (result < 256) }
+fn byte_at(s: &[u8], i: usize) -> u8
+    ensures { result ≡ get_or s.now i 0 }
 {
-    if i < s.len() { byte(s, i) } else { 0 }
+    if i < s.len() { s[i] } else { 0 }
+}
+
+// A position in the bits of some bytes, counted from the first byte's highest bit.
+#[derive(Clone, Copy)]
+pub struct Cursor<S> {
+    pub source: S,
+    pub at: usize,
+}
+
+impl<S: Source> Cursor<S> {
+    // The cursor at the first bit.
+    pub fn new(source: S) -> Cursor<S>
+        ensures { result ≡ record { source = source; at = 0 } }
+    {
+        Cursor { source, at: 0 }
+    }
+
+    // The unsigned field of `width` bits at the cursor, and the cursor behind it. Four bytes hold any 25 bits.
+    // By value, and the position behind is handed back: a rule of the project (docs/DECISIONS.md, forms).
+    pub fn take(mut self, width: usize) -> (u32, Cursor<S>)
+        requires { (1 ≤ width) × (width ≤ 25) × (self.at + width < 2 ^ 64) × (self.at / 8 < S.words self.source) }
+        ensures value { result.0 ≡ field_at (S.bytes self.source) self.at width }
+        ensures behind { result.1 ≡ record self { at = self.at + width } }
+    {
+        let at = self.at;
+        let word = self.source.word(at / 8);
+        self.at = at + width;
+        let field = (word >> (32 - at % 8 - width)) % (1u32 << width);
+        (field, self)
+    }
+
+    // The signed field of `width` bits at the cursor, and the cursor behind it.
+    pub fn take_signed(self, width: usize) -> (i64, Cursor<S>)
+        requires { (1 ≤ width) × (width ≤ 25) × (self.at + width < 2 ^ 64) × (self.at / 8 < S.words self.source) }
+        ensures value { result.0 ≡ signed_at (S.bytes self.source) self.at width }
+        ensures behind { result.1 ≡ record self { at = self.at + width } }
+    {
+        let (field, behind) = self.take(width);
+        (sign_extend(field, width), behind)
+    }
 }
 
 // The number that `width` bits stand for as two's complement.
@@ -130,9 +117,9 @@ fn sign_extend(n: u32, width: usize) -> i64
 {
     let half = 1u32 << (width - 1);
     if n < half {
-        n as i64
+        i64::from(n)
     } else {
-        n as i64 - (half + half) as i64
+        i64::from(n) - i64::from(half + half)
     }
 }
 
@@ -143,9 +130,13 @@ pub struct Pen {
     pub at: usize,
     pub bits: usize,
     pub held: u64,
+    pub ghost few: { bits < 8 },
+    pub ghost small: { held < 2 ^ bits },
 }
 
 impl Pen {
+    ghost use Rattle.bits.specs.Inner.{Room, Put};
+
     // The pen at the first bit.
     pub fn new() -> Pen
         ensures { (result.at ≡ 0) × (result.bits ≡ 0) × (result.held ≡ 0) }
@@ -158,7 +149,8 @@ impl Pen {
     }
 
     // Puts an unsigned field of `width` bits, and hands the pen behind it back. Whole bytes go out at once.
-    pub fn put(mut self, out: &mut [u8], width: usize, value: u64) -> Pen
+    // By value, as the cursor: a rule of the project (docs/DECISIONS.md, forms).
+    pub fn put(self, out: &mut [u8], width: usize, value: u64) -> Pen
         requires { Room out.old self width × (value < 2 ^ width) }
         ensures { Put out.old self width value out.new result }
     {
@@ -172,10 +164,7 @@ impl Pen {
             at += 1;
             held = held % (1u64 << bits);
         }
-        self.at = at;
-        self.bits = bits;
-        self.held = held;
-        self
+        Pen { at, bits, held }
     }
 
     // Puts a signed field of `width` bits.

@@ -6,7 +6,7 @@ use Rattle.bits.proofs.Pens.{joined-lt, begins, byte-lt, turns}
 use Rattle.bits.proofs.Pen.put.Goals as goal
 
 pub overflow_add-held : goal.overflow_add-held
-overflow_add-held c = let pre = c.before.before.requires in omega (arith, joined-lt pre.0 pre.1)
+overflow_add-held c = let pre = c.before.requires in omega (arith, joined-lt pre.0 pre.1)
 
 pub loop-bits-init : goal.loop-bits-init
 loop-bits-init c = begins c.requires.0 c.requires.1
@@ -21,6 +21,4 @@ pub loop-bits-preserved : goal.loop-bits-preserved
 loop-bits-preserved c = turns c.loop-bits.invariant c.loop-bits-test.true
 
 pub returns : goal.returns
-returns c =
-    let t = c.loop-bits.invariant in
-    record { tidy = record { few = c.loop-bits-test.false; small = t.small }; grown = t.grown; holds = t.holds; behind = t.behind; same = t.same }
+returns c = let t = c.loop-bits.invariant in record { grown = t.grown; holds = t.holds; behind = t.behind; same = t.same }

@@ -6,8 +6,7 @@ use Rattle.bits.proofs.Pen.put.Given as goal
 
 abbrev pub invariant-loop-bits : goal.invariant-loop-bits
 invariant-loop-bits l =
-    Turn (pen_number l.fn.out l.fn.self * 2 ^ l.width + l.value) (pen_bits l.fn.self + l.width) l.fn.out l.out
-    (record { at = l.at; bits = l.bits; held = l.held })
+    Turn (pen_number l.fn.out l.fn.self * 2 ^ l.width + l.value) (pen_bits l.fn.self + l.width) l.fn.out l.out l.at l.bits l.held
 
 abbrev pub decreases-loop-bits : goal.decreases-loop-bits
 decreases-loop-bits l = l.bits

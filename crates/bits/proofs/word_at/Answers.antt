@@ -1,7 +1,0 @@
--- `bits::word_at`: four bytes are a field of 32 bits, where those past the end are 0.
-use Rattle.std.proofs.Common.{arith}
-use Rattle.bits.proofs.Fields.{word-field}
-use Rattle.bits.proofs.word_at.Goals as goal
-
-pub returns : goal.returns
-returns c = omega (arith, word-field c.args.s.now (λ j. omega (arith, c.type_inv.s j)) c.args.i)
