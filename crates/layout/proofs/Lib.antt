@@ -1,4 +1,4 @@
--- What fields taken one behind the other make.
+-- The kind's place.
 pub mod Taken
 -- What holds of a header and of a record whatever the bytes are.
 pub mod Bounds

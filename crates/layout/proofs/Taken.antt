@@ -1,45 +1,9 @@
--- What fields taken one behind the other make.
---     point-taken     three signed fields are a point
---     record-taken    a kind and three points are a record's values
---     kind-any        the kind stands at the same place in every layout
--- Assumes nothing.
+-- The kind stands at the same place in every layout. Assumes nothing.
 use mathlib.Core.List.{List}
-use mathlib.Core.Path.{◌≡◌, refl, ap, ◌∙◌}
-use Prim.Native.Nat.{ℕ, ◌+◌, ◌*◌}
-use native.Mathlib.Omega.{arith}
-use lib.IntN.{ℤ}
-use Rattle.bits.specs.Inner.{TakenSigned}
-use Rattle.bits.specs.declared.Cursor.{Cursor}
-use Rattle.bits.specs.declared.SignedField.{SignedField}
-use Rattle.bits.proofs.Fields.{taken-signed-value}
-use Rattle.geometry.specs.declared.Point.{Point}
-use Rattle.geometry.specs.Geometry.{point}
+use mathlib.Core.Path.{◌≡◌, refl}
+use Prim.Native.Nat.{ℕ}
 use Rattle.layout.specs.declared.Layout.{Layout}
-use Rattle.layout.specs.declared.Record.{Record}
-use Rattle.layout.specs.Layout.{version1}
-use Rattle.layout.specs.Values.{record_in, kind_in}
-use Rattle.layout.specs.Taken.{point_in}
-
-pub point-taken : {s : List ℕ} {c : Cursor} {w : ℕ} {x y z : SignedField} {rx ry rz : ℤ} → TakenSigned s c w x → TakenSigned s x.next w y
-    → TakenSigned s y.next w z → rx ≡ x.value → ry ≡ y.value → rz ≡ z.value → point rx ry rz ≡ point_in s c.at w
-point-taken {c = c} {w} a b d ex ey ez =
-    λ i. point ((ex ∙ a.value) i) ((ey ∙ taken-signed-value b (c.at + w) a.next) i) ((ez ∙ taken-signed-value d (c.at + w + w) (omega (arith, a.next, b.next))) i)
-
-pub record-taken : (l : Layout) (s : List ℕ) {k : ℕ} {p q r : Point} → k ≡ kind_in version1 s → let w = l.coordinate in
-    p ≡ point_in s 2 w → q ≡ point_in s (2 + 3 * w) w → r ≡ point_in s (2 + 6 * w) w
-    → ◌≡◌ {A = Record} (record { triangle = record { v0 = p; v1 = q; v2 = r }; kind = k }) (record_in l s)
-unfolding record_in kind_in
-record-taken l s k p q r =
-    let w = l.coordinate in
-    let at : ℕ → Point = λ n. point_in s n w in
-    λ i. record {
-      triangle = record {
-        v0 = p i;
-        v1 = (q ∙ ap at {y = 2 + w + w + w} (omega arith)) i;
-        v2 = (r ∙ ap at {y = 2 + w + w + w + w + w + w} (omega arith)) i;
-      };
-      kind = k i;
-    }
+use Rattle.layout.specs.Values.{kind_in}
 
 pub kind-any : (l m : Layout) (s : List ℕ) → kind_in l s ≡ kind_in m s
 unfolding kind_in

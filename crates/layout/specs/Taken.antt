@@ -1,13 +1,11 @@
 -- What the functions of the reader ask and answer. Definitions only.
 use Rattle.std.specs.Prelude.{List, ◌≡◌, ℕ, ◌+◌, ◌^◌, ◌<◌, ◌≤◌}
-use Rattle.bits.specs.Field.{field_at, signed_at}
-use Rattle.bits.specs.declared.Cursor.{Cursor}
+use Rattle.bits.specs.Field.{signed_at}
 use Rattle.geometry.specs.declared.Point.{Point}
 use Rattle.geometry.specs.Geometry.{point}
 use Rattle.grid.specs.Usable.{GridWithin}
 use Rattle.layout.specs.declared.Header.{Header}
 use Rattle.layout.specs.declared.Layout.{Layout}
-use Rattle.layout.specs.declared.CellsField.{CellsField}
 use Rattle.layout.specs.declared.HeaderFields.{HeaderFields}
 use Rattle.layout.specs.Values.{header_in, reserved_in}
 
@@ -19,13 +17,6 @@ pub record UsableLayout (l : Layout) : Type 0 where
   pub edge-most : l.edge ≤ 25
   pub coordinate-some : 1 ≤ l.coordinate
   pub coordinate-most : l.coordinate ≤ 25
-
--- Three numbers of cells, each stored less one in 6 bits, and the cursor behind them.
-pub record TakenCells (s : List ℕ) (c : Cursor) (r : CellsField) : Type 0 where
-  pub nx : r.nx ≡ field_at s c.at 6 + 1
-  pub ny : r.ny ≡ field_at s (c.at + 6) 6 + 1
-  pub nz : r.nz ≡ field_at s (c.at + 6 + 6) 6 + 1
-  pub next : r.next.at ≡ c.at + 18
 
 -- x, y and z from bit p on, signed, w bits each.
 abbrev pub point_in : List ℕ → (p w : ℕ) → Point

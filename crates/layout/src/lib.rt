@@ -3,10 +3,11 @@
 
 ghost use Rattle.std.specs.Prelude.{◌≡◌, ◌+◌, ◌*◌, ◌/◌, ◌<◌, ◌≤◌, ◌^◌, length};
 ghost use Rattle.layout.specs.Layout.{version1, record_start};
+ghost use Rattle.bits.specs.Field.{field_at};
 ghost use Rattle.layout.specs.Values.{record_in, kind_in, from_record};
-ghost use Rattle.layout.specs.Taken.{UsableLayout, TakenCells, point_in, ReadHeader};
+ghost use Rattle.layout.specs.Taken.{UsableLayout, point_in, ReadHeader};
 
-use bits::Cursor;
+use bits::{Cursor, Source};
 use geometry::{Point, Triangle};
 use grid::Grid;
 
@@ -49,15 +50,6 @@ pub struct Record {
     pub kind: u32,
 }
 
-// Three numbers of cells, and the cursor behind them.
-#[derive(Clone, Copy)]
-struct CellsField {
-    nx: usize,
-    ny: usize,
-    nz: usize,
-    next: Cursor,
-}
-
 // The header's values, and its last bits, which are to be zero.
 #[derive(Clone, Copy)]
 pub struct HeaderFields {
@@ -65,59 +57,26 @@ pub struct HeaderFields {
     pub reserved: u32,
 }
 
-// The numbers of cells along x, y and z, each stored less one in 6 bits.
-fn take_cells(cursor: Cursor, s: &[u8]) -> CellsField
-    requires { cursor.at + 18 < 2 ^ 64 }
-    ensures { TakenCells s.now cursor result }
+// A number of cells, stored less one in 6 bits, and the cursor behind it.
+fn take_cells<S: Source>(cursor: Cursor<S>) -> (usize, Cursor<S>)
+    requires { (cursor.at + 6 < 2 ^ 64) × (cursor.at / 8 < S.words cursor.source) }
+    ensures value { result.0 ≡ field_at (S.bytes cursor.source) cursor.at 6 + 1 }
+    ensures behind { result.1 ≡ record cursor { at = cursor.at + 6 } }
 {
-    let x = cursor.take(s, 6);
-    let after_x = x.next;
-    let y = after_x.take(s, 6);
-    let after_y = y.next;
-    let z = after_y.take(s, 6);
-    let next = z.next;
-    CellsField {
-        nx: x.value as usize + 1,
-        ny: y.value as usize + 1,
-        nz: z.value as usize + 1,
-        next,
-    }
+    let (cells, behind) = cursor.take(6);
+    (cells as usize + 1, behind)
 }
 
-// The point whose x, y and z stand from bit `at` on, signed, `width` bits each.
-fn point_at(s: &[u8], at: usize, width: usize) -> Point
-    requires { (1 ≤ width) × (width ≤ 25) × (at + 3 * width < 2 ^ 64) }
-    ensures { result ≡ point_in s.now at width }
+// The point whose x, y and z stand at the cursor, signed, `width` bits each, and the cursor behind them.
+fn take_point<S: Source>(cursor: Cursor<S>, width: usize) -> (Point, Cursor<S>)
+    requires { (1 ≤ width) × (width ≤ 25) × (cursor.at + 3 * width < 2 ^ 64) × ((cursor.at + 2 * width) / 8 < S.words cursor.source) }
+    ensures value { result.0 ≡ point_in (S.bytes cursor.source) cursor.at width }
+    ensures behind { result.1 ≡ record cursor { at = cursor.at + width + width + width } }
 {
-    let cursor = Cursor { at };
-    let x = cursor.take_signed(s, width);
-    let after_x = x.next;
-    let y = after_x.take_signed(s, width);
-    let after_y = y.next;
-    let z = after_y.take_signed(s, width);
-    Point {
-        x: x.value,
-        y: y.value,
-        z: z.value,
-    }
-}
-
-// The same, where the bytes that have the fields are all there.
-fn point_inside(s: &[u8], at: usize, width: usize) -> Point
-    requires { (1 ≤ width) × (width ≤ 25) × (at + 3 * width < 2 ^ 64) × ((at + 2 * width) / 8 + 3 < length s.now) }
-    ensures { result ≡ point_in s.now at width }
-{
-    let cursor = Cursor { at };
-    let x = cursor.take_inside(s, width);
-    let after_x = x.next;
-    let y = after_x.take_inside(s, width);
-    let after_y = y.next;
-    let z = after_y.take_inside(s, width);
-    Point {
-        x: x.value,
-        y: y.value,
-        z: z.value,
-    }
+    let (x, behind_x) = cursor.take_signed(width);
+    let (y, behind_y) = behind_x.take_signed(width);
+    let (z, behind) = behind_y.take_signed(width);
+    (Point { x, y, z }, behind)
 }
 
 // Reads the header, each field where the one before it ends.
@@ -125,35 +84,27 @@ pub fn read_header(layout: Layout, file: &[u8]) -> HeaderFields
     requires { UsableLayout layout }
     ensures { ReadHeader layout file.now result }
 {
-    let version = Cursor::new().take(file, 4);
-    let after_version = version.next;
-    let cells = take_cells(after_version, file);
-    let after_cells = cells.next;
-    let edge = after_cells.take(file, layout.edge);
-    let after_edge = edge.next;
-    let origin = point_at(file, after_edge.at, layout.coordinate);
-    let after_origin = Cursor {
-        at: after_edge.at + 3 * layout.coordinate,
-    };
-    let count = after_origin.take(file, 12);
-    let after_count = count.next;
-    let reserved = after_count.take(file, 12);
+    let (version, behind_version) = Cursor::new(file).take(4);
+    let (nx, behind_nx) = take_cells(behind_version);
+    let (ny, behind_ny) = take_cells(behind_nx);
+    let (nz, behind_cells) = take_cells(behind_ny);
+    let (edge, behind_edge) = behind_cells.take(layout.edge);
+    let (origin, behind_origin) = take_point(behind_edge, layout.coordinate);
+    let (count, behind_count) = behind_origin.take(12);
+    let (reserved, _) = behind_count.take(12);
     let grid = Grid {
-        nx: cells.nx,
-        ny: cells.ny,
-        nz: cells.nz,
-        edge: edge.value as i64,
+        nx,
+        ny,
+        nz,
+        edge: i64::from(edge),
         origin,
     };
     let header = Header {
-        version: version.value,
+        version,
         grid,
-        count: count.value as usize,
+        count: count as usize,
     };
-    HeaderFields {
-        header,
-        reserved: reserved.value,
-    }
+    HeaderFields { header, reserved }
 }
 
 // The byte at which record i begins.
@@ -177,35 +128,21 @@ pub fn from_record(layout: Layout, file: &[u8], i: usize) -> &[u8]
 pub fn read_kind(part: &[u8]) -> u32
     ensures { result ≡ kind_in version1 part.now }
 {
-    let field = Cursor::new().take(part, 2);
-    field.value
+    let (kind, _) = Cursor::new(part).take(2);
+    kind
 }
 
-// The values of the record at the start of `part`: the corners stand behind the kind's two bits.
-pub fn read_record(layout: Layout, part: &[u8]) -> Record
-    requires { UsableLayout layout }
-    ensures { result ≡ record_in layout part.now }
+// The values of the record at the start of `part`: the corners stand behind the kind's two bits. No field's four bytes go beyond a record's first 32:
+// a part that has them may be read by `bits::Inside`, and no length is looked at. A fill reads all records but the last of a file so.
+pub fn read_record<S: Source>(layout: Layout, part: S) -> Record
+    requires { UsableLayout layout × (29 ≤ S.words part) }
+    ensures { result ≡ record_in layout (S.bytes part) }
 {
     let w = layout.coordinate;
-    let v0 = point_at(part, 2, w);
-    let v1 = point_at(part, 2 + 3 * w, w);
-    let v2 = point_at(part, 2 + 6 * w, w);
+    let (kind, behind_kind) = Cursor::new(part).take(2);
+    let (v0, behind_v0) = take_point(behind_kind, w);
+    let (v1, behind_v1) = take_point(behind_v0, w);
+    let (v2, _) = take_point(behind_v1, w);
     let triangle = Triangle { v0, v1, v2 };
-    let kind = read_kind(part);
-    Record { triangle, kind }
-}
-
-// The same, of a record that has 32 bytes: no field's four bytes go beyond them, so that no length is looked at. A fill reads all records but the
-// last of a file so.
-pub fn read_inside(layout: Layout, part: &[u8]) -> Record
-    requires { UsableLayout layout × (32 ≤ length part.now) }
-    ensures { result ≡ record_in layout part.now }
-{
-    let w = layout.coordinate;
-    let v0 = point_inside(part, 2, w);
-    let v1 = point_inside(part, 2 + 3 * w, w);
-    let v2 = point_inside(part, 2 + 6 * w, w);
-    let triangle = Triangle { v0, v1, v2 };
-    let kind = read_kind(part);
     Record { triangle, kind }
 }

@@ -1,6 +1,12 @@
 -- `layout::read_record` meets its contract: the corners stand one behind the other.
-use Rattle.layout.proofs.Taken.{record-taken}
+use Rattle.layout.specs.Values.{record_in}
 use Rattle.layout.proofs.read_record.Goals as goal
 
 pub returns : goal.returns
-returns c = record-taken c.args.layout c.args.part.now c.read_kind-kind.ensures c.point_at-v0.ensures c.point_at-v1.ensures c.point_at-v2.ensures
+unfolding record_in
+returns g c =
+    let kind = rw c.new.ensures at c.take-kind.ensures in
+    let v0 = rw kind.behind at c.take_point-behind_v0.ensures in
+    let v1 = rw v0.behind at c.take_point-behind_v1.ensures in
+    let v2 = rw v1.behind at c.take_point.ensures in
+    λ i. record { triangle = record { v0 = v0.value i; v1 = v1.value i; v2 = v2.value i }; kind = kind.value i }
