@@ -1,5 +1,4 @@
 -- What holds of a header and of a record whatever the bytes are: the layout's widths bound each number.
---     version1-usable    a reader can take the layout of version 1
 --     header-bounded     a header's values
 --     record-within      a record's corners, in version 1
 --     kind-lt            its kind
@@ -19,17 +18,7 @@ use Rattle.grid.proofs.Usable.{grid-weaken}
 use Rattle.layout.specs.declared.Layout.{Layout}
 use Rattle.layout.specs.Layout.{version1}
 use Rattle.layout.specs.Values.{header_in, record_in}
-use Rattle.layout.specs.Taken.{UsableLayout, point_in, BoundedHeader}
-
-pub version1-usable : UsableLayout version1
-version1-usable = record {
-  header-most = lit≤ tt;
-  stride_most = lit≤ tt;
-  edge-some = lit≤ tt;
-  edge-most = lit≤ tt;
-  coordinate-some = lit≤ tt;
-  coordinate-most = lit≤ tt;
-}
+use Rattle.layout.specs.Taken.{point_in, BoundedHeader}
 
 -- three signed fields, and a number of cells
 point-within : (s : List ℕ) (p w : ℕ) → 1 ≤ w → PointWithin (2 ^ (w - 1)) (point_in s p w)
@@ -38,14 +27,14 @@ point-within s p w h = record { x = signed-within s p w h; y = signed-within s (
 side : (s : List ℕ) (p : ℕ) → OneTo64 (field_at s p 6 + 1)
 side s p = record { some = omega arith; most = omega (arith, field_lt s p 6) }
 
-module _ (l : Layout) (u : UsableLayout l) (s : List ℕ) where
+module _ (l : Layout) (s : List ℕ) where
   pub grid-within : GridWithin (2 ^ (l.coordinate - 1)) (2 ^ l.edge) (header_in l s).grid
   unfolding header_in
   grid-within = record {
     x = side s 4;
     y = side s 10;
     z = side s 16;
-    origin = point-within s (22 + l.edge) l.coordinate u.coordinate-some;
+    origin = point-within s (22 + l.edge) l.coordinate l.coordinate_some;
     edge = record { within = le_of_lt (field_lt s 22 l.edge) };
   }
 
@@ -54,7 +43,7 @@ module _ (l : Layout) (u : UsableLayout l) (s : List ℕ) where
   count-lt = field_lt s (22 + l.edge + l.coordinate + l.coordinate + l.coordinate) 12
 
   pub header-bounded : BoundedHeader (header_in l s)
-  header-bounded = record { grid = grid-weaken (pow_mono {i = l.coordinate - 1} {j = 24} (omega (arith, u.coordinate-most))) (pow_mono u.edge-most) grid-within; count = count-lt }
+  header-bounded = record { grid = grid-weaken (pow_mono {i = l.coordinate - 1} {j = 24} (omega (arith, l.coordinate_most))) (pow_mono l.edge_most) grid-within; count = count-lt }
 
 pub kind-lt : (s : List ℕ) → (record_in version1 s).kind < 4
 unfolding record_in

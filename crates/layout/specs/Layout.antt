@@ -1,5 +1,6 @@
 -- The printed layout of the frame file: a header and records, each a list of fields, and how they are split into numbers. Definitions only.
 use Rattle.std.specs.Prelude.{List, [], ◌∷◌, ℕ, ◌+◌, ◌*◌, ℤ, pos}
+use lib.Dec.{lit≤}
 use Rattle.bits.specs.Field.{field_at, signed_at}
 use Rattle.layout.specs.declared.Layout.{Layout}
 
@@ -24,7 +25,19 @@ coordinates w fs = field signed w ∷ field signed w ∷ field signed w ∷ fs
 -- Version 1: a header of 12 bytes; records that begin 16 bytes apart; a cell edge of 8 bits, coordinates of 14 bits; and no grid
 -- reaches beyond 8,191.
 abbrev pub version1 : Layout
-version1 = record { header = 12; stride = 16; edge = 8; coordinate = 14; farthest = pos 8191 }
+version1 = record {
+  header = 12;
+  stride = 16;
+  edge = 8;
+  coordinate = 14;
+  farthest = pos 8191;
+  header_most = lit≤ tt;
+  stride_most = lit≤ tt;
+  edge_some = lit≤ tt;
+  edge_most = lit≤ tt;
+  coordinate_some = lit≤ tt;
+  coordinate_most = lit≤ tt;
+}
 
 -- The header: version, cells along x, y, z, cell edge, origin x, y, z, triangle count, zero bits.
 abbrev pub header_fields : Layout → List FieldForm

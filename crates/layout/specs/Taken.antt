@@ -1,5 +1,5 @@
 -- What the functions of the reader ask and answer. Definitions only.
-use Rattle.std.specs.Prelude.{List, ◌≡◌, ℕ, ◌+◌, ◌^◌, ◌<◌, ◌≤◌}
+use Rattle.std.specs.Prelude.{List, ◌≡◌, ℕ, ◌+◌, ◌^◌, ◌<◌}
 use Rattle.bits.specs.Field.{signed_at}
 use Rattle.geometry.specs.declared.Point.{Point}
 use Rattle.geometry.specs.Geometry.{point}
@@ -8,15 +8,6 @@ use Rattle.layout.specs.declared.Header.{Header}
 use Rattle.layout.specs.declared.Layout.{Layout}
 use Rattle.layout.specs.declared.HeaderFields.{HeaderFields}
 use Rattle.layout.specs.Values.{header_in, reserved_in}
-
--- A layout that a reader can take: lengths of at most 64 bytes, and fields of 1 to 25 bits, which a cursor takes at once.
-pub record UsableLayout (l : Layout) : Type 0 where
-  pub header-most : l.header ≤ 64
-  pub stride_most : l.stride ≤ 64
-  pub edge-some : 1 ≤ l.edge
-  pub edge-most : l.edge ≤ 25
-  pub coordinate-some : 1 ≤ l.coordinate
-  pub coordinate-most : l.coordinate ≤ 25
 
 -- x, y and z from bit p on, signed, w bits each.
 abbrev pub point_in : List ℕ → (p w : ℕ) → Point

@@ -1,7 +1,7 @@
 -- `layout::from_record` meets its contract: the part runs to the file's end.
 use Rattle.std.proofs.Common.{ap, ◌∙◌, ℕ, ◌-◌, le_of_eq, length, drop, length-drop}
 use Rattle.std.proofs.Math.Seq.{take_all}
-use Rattle.layout.proofs.from_record.Goals as goal
+use Rattle.layout.proofs.read.from_record.Goals as goal
 
 pub returns : goal.returns
 returns c =

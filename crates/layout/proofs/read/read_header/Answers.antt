@@ -2,7 +2,7 @@
 use Rattle.std.proofs.Common.{rules, ap, ◌∙◌, pos, w64}
 use mir.Facts.{to_z-of_z}
 use Rattle.layout.specs.Values.{header_in, reserved_in}
-use Rattle.layout.proofs.read_header.Goals as goal
+use Rattle.layout.proofs.read.read_header.Goals as goal
 
 pub returns : goal.returns
 unfolding header_in reserved_in

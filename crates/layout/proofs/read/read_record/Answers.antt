@@ -1,6 +1,6 @@
 -- `layout::read_record` meets its contract: the corners stand one behind the other.
 use Rattle.layout.specs.Values.{record_in}
-use Rattle.layout.proofs.read_record.Goals as goal
+use Rattle.layout.proofs.read.read_record.Goals as goal
 
 pub returns : goal.returns
 unfolding record_in
