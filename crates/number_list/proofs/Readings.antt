@@ -2,24 +2,22 @@
 --     feed     at a line feed
 --     blank    at a space
 --     hash     at a comment, which lasts to the end of its line
---     word_number, word-wrong    at a word
+--     word     at a word
 --     past     at the end
 -- Assumes nothing.
 use mathlib.Core.Bool.{Bool, true, false}
 use mathlib.Core.List.{List, [], ◌∷◌, ◌++◌, append-nil, append_assoc}
 use mathlib.Core.Path.{◌≡◌, refl, sym, ap, ◌∙◌}
-use Prim.Native.Nat.{ℕ, zero, suc, ◌+◌, ◌-◌, ◌<◌, ◌≤◌}
+use Prim.Native.Nat.{ℕ, zero, suc, ◌+◌, ◌<◌}
 use native.Mathlib.Numerals.{add-one}
 use native.Mathlib.Omega.{arith}
 use lib.Dec.{eqb}
 use lib.IntN.{ℤ}
-use lib.ListN.{length, get_or, take, drop, length-drop, drop_of_length-le}
-use lib.Seq.{drop-cons, drop-drop}
-use Rattle.parse.specs.declared.Word.{Word}
-use Rattle.parse.specs.declared.Word.TheVariants.{Number, NoNumber}
-use Rattle.number_list.specs.Numbers.{Reading, number, wrong, end, number_of, said, ended, reading}
+use lib.ListN.{length, take, drop}
+use Rattle.std.specs.Prelude.{Option}
+use Rattle.number_list.specs.Numbers.{Reading, end, number_of, said, ended, reading}
 use Rattle.number_list.specs.Inner.{is_word, word_length, line_length}
-use Rattle.number_list.proofs.Runs.{word_more}
+use Rattle.number_list.proofs.Runs.{word-some}
 
 -- ---- at one character
 module _ (line : ℕ) (word : List ℕ) (c : ℕ) (cs : List ℕ) where
@@ -90,43 +88,31 @@ some line zero s behind h k = absurd (omega arith)
 some line (suc n) [] behind h k = absurd (omega arith)
 some line (suc n) (c ∷ cs) behind h k = refl
 
--- ---- at a place of a text
-module _ (line : ℕ) (s : List ℕ) (i : ℕ) (h : i < length s) where
-  here : (b : Bool) → reading b line [] (drop i s) ≡ reading b line [] (get_or s i 0 ∷ drop (suc i) s)
-  here b = ap (reading b line []) (drop-cons s i 0 h)
+-- ---- what a text says, by its first character
+module _ (line : ℕ) {s : List ℕ} {c : ℕ} {cs : List ℕ} (e : s ≡ c ∷ cs) where
+  here : (b : Bool) → reading b line [] s ≡ reading b line [] (c ∷ cs)
+  here b = ap (reading b line []) e
 
   -- a test of the character
-  test : (k : ℕ) {n : ℕ} → get_or s i 0 ≡ n → eqb (get_or s i 0) k ≡ eqb n k
-  test k e = ap (λ (n : ℕ). eqb n k) e
+  test : (k : ℕ) {n : ℕ} → c ≡ n → eqb c k ≡ eqb n k
+  test k p = ap (λ (n : ℕ). eqb n k) p
 
-  pub feed : get_or s i 0 ≡ 10 → reading false line [] (drop i s) ≡ reading false (line + 1) [] (drop (i + 1) s)
-  feed e = here false ∙ at-feed line [] (get_or s i 0) (drop (suc i) s) false (test 10 e) ∙ rw (add-one i, add-one line) refl
+  pub feed : c ≡ 10 → reading false line [] s ≡ reading false (line + 1) [] cs
+  feed p = here false ∙ at-feed line [] c cs false (test 10 p) ∙ rw (add-one line) refl
 
-  pub blank : get_or s i 0 ≡ 32 → reading false line [] (drop i s) ≡ reading false line [] (drop (i + 1) s)
-  blank e = here false ∙ at-space line [] (get_or s i 0) (drop (suc i) s) (test 10 e) (test 35 e) (test 32 e) ∙ rw (add-one i) refl
+  pub blank : c ≡ 32 → reading false line [] s ≡ reading false line [] cs
+  blank p = here false ∙ at-space line [] c cs (test 10 p) (test 35 p) (test 32 p)
 
-  opened : get_or s i 0 ≡ 35 → reading false line [] (drop i s) ≡ reading true line [] (drop i s)
-  opened e = here false ∙ at-hash line [] (get_or s i 0) (drop (suc i) s) (test 10 e) (test 35 e) ∙ sym (in-comment line [] (get_or s i 0) (drop (suc i) s) (test 10 e)) ∙ sym (here true)
+  opened : c ≡ 35 → reading false line [] s ≡ reading true line [] s
+  opened p = here false ∙ at-hash line [] c cs (test 10 p) (test 35 p) ∙ sym (in-comment line [] c cs (test 10 p)) ∙ sym (here true)
 
-  pub hash : {end : ℕ} → get_or s i 0 ≡ 35 → end ≡ i + line_length (drop i s) → reading false line [] (drop i s) ≡ reading false line [] (drop end s)
-  hash {end} e p = opened e ∙ comment line (drop i s) ∙ ap (reading false line []) (drop-drop (line_length (drop i s)) i s ∙ ap (λ (k : ℕ). drop k s) (sym p))
+  pub hash : {n : ℕ} {behind : List ℕ} → c ≡ 35 → n ≡ line_length s → behind ≡ drop n s → reading false line [] s ≡ reading false line [] behind
+  hash p l d = opened p ∙ comment line s ∙ rw (d, l) refl
 
-  word : {end : ℕ} → is_word (get_or s i 0) ≡ true → end ≡ i + word_length (drop i s) → reading false line [] (drop i s) ≡ said line (number_of (take (end - i) (drop i s))) (reading false line [] (drop end s))
-  word {end} e p =
-      let rest = drop i s in
-      let most : end - i ≡ word_length rest = omega (arith, p) in
-      let behind = reading false line [] (drop (word_length rest) rest) in
-      goes line [] rest
-      ∙ some line (word_length rest) rest behind (omega (arith, word_more s i h e)) (omega (arith, length-drop i s))
-      ∙ ap (λ (k : ℕ). said line (number_of (take k rest)) behind) (sym most)
-      ∙ ap (λ (l : List ℕ). said line (number_of (take (end - i) rest)) (reading false line [] l)) (drop-drop (word_length rest) i s ∙ ap (λ (k : ℕ). drop k s) (sym p))
+  pub word : {n : ℕ} {w behind : List ℕ} {o : Option ℤ} → is_word c ≡ true → n ≡ word_length s → w ≡ take n s → behind ≡ drop n s → number_of w ≡ o → reading false line [] s ≡ said line o (reading false line [] behind)
+  word p l t d f = goes line [] s ∙ some line (word_length s) s _ (word-some e p) (omega (arith, ap length e)) ∙ rw (← f, t, d, l) refl
 
-  pub word_number : {end : ℕ} {z : ℤ} → is_word (get_or s i 0) ≡ true → end ≡ i + word_length (drop i s) → number_of (take (end - i) (drop i s)) ≡ Number z → reading false line [] (drop i s) ≡ number z (reading false line [] (drop end s))
-  word_number {end} e p f = word e p ∙ ap (λ (w : Word). said line w (reading false line [] (drop end s))) f
-
-  pub word-wrong : {end : ℕ} → is_word (get_or s i 0) ≡ true → end ≡ i + word_length (drop i s) → number_of (take (end - i) (drop i s)) ≡ NoNumber → reading false line [] (drop i s) ≡ wrong line
-  word-wrong {end} e p f = word e p ∙ ap (λ (w : Word). said line w (reading false line [] (drop end s))) f
-
-pub past : (line : ℕ) (s : List ℕ) (i : ℕ) → length s ≤ i → reading false line [] (drop i s) ≡ end
+pub past : (line : ℕ) (s : List ℕ) → length s ≡ 0 → reading false line [] s ≡ end
 unfolding reading
-past line s i h = ap (reading false line []) (drop_of_length-le s h)
+past line [] h = refl
+past line (c ∷ cs) h = absurd (omega arith)

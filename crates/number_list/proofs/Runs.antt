@@ -1,71 +1,65 @@
 -- Laws of words and lines, character by character.
---     word_more     one more character of a word
---     word-stops    a character that belongs to none
---     word-past     no text, no word
---     word-most     a word ends with its text
---     line-more     one more character of a line
---     line-stops    a line feed
---     line-past     no text, no line
---     line-most     a line ends with its text
+--     word-first, line-first    they end at the first character that ends them, or with the text
+--     word-most, line-most      they are no longer than the text
+--     word-some                 what begins with a character of a word begins with a word
+--     line-some                 what begins with no line feed has a line
 -- Assumes nothing.
-use borrow.Author.Tests.{eq-eqb, ne_eqb}
-use mathlib.Core.Bool.{Bool, true, false, cond}
-use mathlib.Core.List.{List, [], ◌∷◌}
-use mathlib.Core.Path.{◌≡◌, refl, ap, ◌∙◌}
-use Prim.Native.Nat.{ℕ, suc, ◌+◌, ◌<◌, ◌≤◌}
-use native.Mathlib.Numerals.{add-one}
-use native.Mathlib.Omega.{arith}
-use lib.Dec.{eqb}
-use lib.ListN.{length, get_or, drop, length-drop, drop_of_length-le}
-use lib.Seq.{drop-cons}
+use borrow.Author.Tests.{ne_eqb}
+use Rattle.std.proofs.Common.{◌≡◌, refl, ℕ, suc, ◌+◌, ◌<◌, ◌≤◌, Bool, true, false, cond, not, eqb, ltb, List, [], ◌∷◌, length, arith, Some, None}
+use Rattle.std.specs.List.{position, position_or_len}
+use Rattle.std.specs.Option.{unwrap_or}
+use Rattle.std.proofs.lemmas.List.Recursion.{is_position_or_len}
 use Rattle.number_list.specs.Inner.{is_word, word_length, line_length}
 
-most : (b : Bool) {n m : ℕ} → n ≤ m → cond b (suc n) 0 ≤ suc m
+-- ---- the first place, or the length
+most : (b : Bool) {n m : ℕ} → n ≤ m → cond b (1 + n) 0 ≤ suc m
 most true h = omega arith
 most false h = omega arith
 
-most-else : (b : Bool) {n m : ℕ} → n ≤ m → cond b 0 (suc n) ≤ suc m
-most-else true h = omega arith
-most-else false h = omega arith
+within : (p : ℕ → Bool) (s : List ℕ) → position_or_len p s ≤ length s
+within p [] = omega arith
+within p (c ∷ cs) = most (not (p c)) (within p cs)
 
-word-within : (s : List ℕ) → word_length s ≤ length s
+or_length : (k n : ℕ) → k ≤ n → unwrap_or (cond (ltb k n) (Some k) None) n ≡ k
+or_length k n h = grind arith
+
+pub first-or-length : (p : ℕ → Bool) (s : List ℕ) → unwrap_or (position p s) (length s) ≡ position_or_len p s
+first-or-length p s = or_length (position_or_len p s) (length s) (within p s)
+
+word-none : word_length [] ≡ 0
 unfolding word_length
-word-within [] = omega arith
-word-within (c ∷ cs) = most (is_word c) (word-within cs)
+word-none = refl
 
-line-within : (s : List ℕ) → line_length s ≤ length s
+word-step : (c : ℕ) (cs : List ℕ) → word_length (c ∷ cs) ≡ cond (not (is_word c)) 0 (1 + word_length cs)
+unfolding word_length
+word-step c cs = grind arith
+
+pub word-first : (s : List ℕ) → word_length s ≡ position_or_len (λ c. not (is_word c)) s
+word-first = is_position_or_len word_length (λ c. not (is_word c)) word-none word-step
+
+line-none : line_length [] ≡ 0
 unfolding line_length
-line-within [] = omega arith
-line-within (c ∷ cs) = most-else (eqb c 10) (line-within cs)
+line-none = refl
 
-module _ (s : List ℕ) (i : ℕ) where
-  pub word-past : length s ≤ i → word_length (drop i s) ≡ 0
+line-step : (c : ℕ) (cs : List ℕ) → line_length (c ∷ cs) ≡ cond (eqb c 10) 0 (1 + line_length cs)
+unfolding line_length
+line-step c cs = grind arith
+
+pub line-first : (s : List ℕ) → line_length s ≡ position_or_len (λ c. eqb c 10) s
+line-first = is_position_or_len line_length (λ c. eqb c 10) line-none line-step
+
+pub word-most : (s : List ℕ) → word_length s ≤ length s
+word-most s = rw (word-first s) (within _ s)
+
+pub line-most : (s : List ℕ) → line_length s ≤ length s
+line-most s = rw (line-first s) (within _ s)
+
+-- ---- where there are some
+module _ {s : List ℕ} {c : ℕ} {cs : List ℕ} (e : s ≡ c ∷ cs) where
+  pub word-some : is_word c ≡ true → 0 < word_length s
   unfolding word_length
-  word-past h = ap word_length (drop_of_length-le s h)
+  word-some p = rw (e, p) (omega arith)
 
-  pub line-past : length s ≤ i → line_length (drop i s) ≡ 0
+  pub line-some : (c ≡ 10 → ⊥) → 0 < line_length s
   unfolding line_length
-  line-past h = ap line_length (drop_of_length-le s h)
-
-module _ (s : List ℕ) (i : ℕ) (h : i < length s) where
-  pub word_more : is_word (get_or s i 0) ≡ true → word_length (drop i s) ≡ suc (word_length (drop (i + 1) s))
-  unfolding word_length
-  word_more e = ap word_length (drop-cons s i 0 h) ∙ rw (e, add-one i) refl
-
-  pub word-stops : is_word (get_or s i 0) ≡ false → word_length (drop i s) ≡ 0
-  unfolding word_length
-  word-stops e = ap word_length (drop-cons s i 0 h) ∙ rw e refl
-
-  pub word-most : i + word_length (drop i s) ≤ length s
-  word-most = omega (arith, word-within (drop i s), length-drop i s)
-
-  pub line-more : (get_or s i 0 ≡ 10 → ⊥) → line_length (drop i s) ≡ suc (line_length (drop (i + 1) s))
-  unfolding line_length
-  line-more e = ap line_length (drop-cons s i 0 h) ∙ rw (ne_eqb _ _ e, add-one i) refl
-
-  pub line-stops : get_or s i 0 ≡ 10 → line_length (drop i s) ≡ 0
-  unfolding line_length
-  line-stops e = ap line_length (drop-cons s i 0 h) ∙ rw (eq-eqb _ _ e) refl
-
-  pub line-most : i + line_length (drop i s) ≤ length s
-  line-most = omega (arith, line-within (drop i s), length-drop i s)
+  line-some n = rw (e, ne_eqb _ _ n) (omega arith)

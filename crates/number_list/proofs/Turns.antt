@@ -12,8 +12,8 @@ use native.Mathlib.Numerals.{add-one}
 use lib.IntN.{ℤ}
 use lib.ListN.{set}
 use lib.Seq.{sets}
-use Rattle.number_list.specs.declared.Listed.{Listed}
-use Rattle.number_list.specs.declared.Listed.TheVariants.{Numbers, Wrong}
+use Rattle.number_list.specs.declared.WrongWord.{WrongWord}
+use Rattle.std.specs.Prelude.{Result, Ok, Err}
 use Rattle.number_list.specs.Numbers.{Reading, number, wrong, end, reading_of, answer_from, numbers_in, over}
 use Rattle.number_list.proofs.Places.{sets_over}
 
@@ -22,7 +22,7 @@ pub record Left (text : List ℕ) (old : List ℤ) (left : Reading) (n : ℕ) (o
   pub numbers : sets out n (numbers_in left) ≡ over (numbers_in (reading_of text)) old
 
 -- what the contract promises
-abbrev Answered : (text : List ℕ) (old : List ℤ) → Listed → List ℤ → Type 0
+abbrev Answered : (text : List ℕ) (old : List ℤ) → Result ℕ WrongWord → List ℤ → Type 0
 Answered text old r out = (r ≡ answer_from 0 (reading_of text)) × (out ≡ over (numbers_in (reading_of text)) old)
 
 pub begun : (text : List ℕ) (old : List ℤ) → Left text old (reading_of text) 0 old
@@ -36,10 +36,10 @@ module _ {text : List ℕ} {old : List ℤ} {left : Reading} {n : ℕ} {out : Li
   unfolding answer_from numbers_in
   taken e p = let b = passed e in rw (p, add-one n) (record { answer = b.answer; numbers = b.numbers })
 
-  pub stopped : {line : ℕ} → left ≡ wrong line → Answered text old (Wrong line) out
+  pub stopped : {line : ℕ} → left ≡ wrong line → Answered text old (Err (record { line = line })) out
   unfolding answer_from numbers_in
   stopped e = let b = passed e in (b.answer, b.numbers)
 
-  pub done : left ≡ end → Answered text old (Numbers n) out
+  pub done : left ≡ end → Answered text old (Ok n) out
   unfolding answer_from numbers_in
   done e = let b = passed e in (b.answer, b.numbers)

@@ -1,23 +1,20 @@
 -- A list of numbers, from text. Definitions only. A character is its ASCII code: 10 is a line feed, 32 a space, 35 is `#`.
-use Rattle.std.specs.Prelude.{Bool, true, false, cond, ◌&&◌, List, [], ◌∷◌, ◌++◌, ℕ, suc, eqb, ℤ, pos, negsuc, length, take, drop}
+use Rattle.std.specs.Prelude.{Bool, true, false, cond, ◌&&◌, List, [], ◌∷◌, ◌++◌, ℕ, suc, eqb, ℤ, pos, negsuc, length, take, drop, Option, Some, None, Result, Ok, Err}
 use Rattle.std.specs.Int.Signed.{le_z}
-use Rattle.parse.specs.declared.Word.{Word}
-use Rattle.parse.specs.declared.Word.TheVariants.{Number, NoNumber}
 use Rattle.parse.specs.Parse.{number_in}
-use Rattle.number_list.specs.declared.Listed.{Listed}
-use Rattle.number_list.specs.declared.Listed.TheVariants.{Numbers, Wrong}
+use Rattle.number_list.specs.declared.WrongWord.{WrongWord}
 
 -- ---- a word
 -- Do 32 bits hold a number? negsuc 2147483647 is −2147483648.
 abbrev pub fits : ℤ → Bool
 fits z = le_z (negsuc 2147483647) z && le_z z (pos 2147483647)
 
-abbrev pub held : Word → Word
-held (Number z) = cond (fits z) (Number z) NoNumber
-held NoNumber = NoNumber
+abbrev pub held : Option ℤ → Option ℤ
+held (Some z) = cond (fits z) (Some z) None
+held None = None
 
 -- The number that a word says, where 32 bits hold it.
-unfoldable pub number_of : List ℕ → Word
+unfoldable pub number_of : List ℕ → Option ℤ
 number_of word = held (number_in word)
 
 -- ---- a text
@@ -28,9 +25,9 @@ pub data Reading : Type 0 where
   end : Reading
 
 -- A word, and what is said behind it.
-abbrev pub said : (line : ℕ) → Word → Reading → Reading
-said line (Number z) behind = number z behind
-said line NoNumber behind = wrong line
+abbrev pub said : (line : ℕ) → Option ℤ → Reading → Reading
+said line (Some z) behind = number z behind
+said line None behind = wrong line
 
 -- The characters of a word that ends here, and what is said behind it. No characters are no word.
 abbrev pub ended : (line : ℕ) → List ℕ → Reading → Reading
@@ -54,10 +51,10 @@ reading_of text = reading false 1 [] text
 
 -- ---- what is answered
 -- The line of the wrong word, or how many numbers there are, behind n others.
-unfoldable pub answer_from : ℕ → Reading → Listed
+unfoldable pub answer_from : ℕ → Reading → Result ℕ WrongWord
 answer_from n (number z behind) = answer_from (suc n) behind
-answer_from n (wrong line) = Wrong line
-answer_from n end = Numbers n
+answer_from n (wrong line) = Err (record { line = line })
+answer_from n end = Ok n
 
 -- The numbers up to the first wrong word.
 unfoldable pub numbers_in : Reading → List ℤ

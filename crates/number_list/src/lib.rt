@@ -1,126 +1,84 @@
 // A list of numbers, from text: numbers in base ten, parted by spaces, line feeds and comments.
 #![tactic(auto)]
 
-ghost use Rattle.std.specs.Prelude.{true, ◌≡◌, ◌+◌, drop, set};
-ghost use Rattle.number_list.specs.Numbers.{fits, held, number_of, reading_of, answer_from, numbers_in, over};
+ghost use Rattle.std.specs.Prelude.{◌≡◌, ◌≤◌, set, length};
+ghost use Rattle.number_list.specs.Numbers.{number_of, reading_of, answer_from, numbers_in, over};
 ghost use Rattle.number_list.specs.Inner.{is_word, word_length, line_length};
 
-use parse::Word;
-
-// How a text was read: so many numbers, or the line of the first word that is no number of 32 bits.
-#[derive(Clone, Copy)]
-pub enum Listed {
-    Numbers(usize),
-    Wrong(usize),
+// A word of a text that is no number of 32 bits: the line that it stands on, counted from 1.
+#[derive(Clone, Copy, Debug, PartialEq, Eq)]
+pub struct WrongWord {
+    pub line: usize,
 }
 
-// Reads the numbers of a text, up to the first wrong word, into the start of `out`. Those beyond its end are only counted.
-pub fn read_list(text: &[u8], out: &mut [i32]) -> Listed
+// Reads the numbers of a text, up to the first wrong word, into the start of `out`, and answers how many there are. Those
+// beyond the end of `out` are only counted.
+pub fn read_list(text: &[u8], out: &mut [i32]) -> Result<usize, WrongWord>
     ensures answer { result ≡ answer_from 0 (reading_of text.now) }
     ensures numbers { out.new ≡ over (numbers_in (reading_of text.now)) out.old }
 {
-    let mut feeds: usize = 0;
-    let mut n: usize = 0;
-    let mut i: usize = 0;
-    while i < text.len() {
-        let c = text[i];
-        if c == 10 {
-            feeds += 1;
-            i += 1;
-            continue;
-        }
-        if c == 35 {
-            i = line_end(text, i);
-            continue;
-        }
-        if c == 32 {
-            i += 1;
-            continue;
-        }
-        let end = word_end(text, i);
-        match number_of(&text[i..end]) {
-            Word::Number(x) => {
-                put(out, n, x);
-                n += 1;
-                i = end;
+    let mut line = 1;
+    let mut count = 0;
+    let mut rest = text;
+    while let Some((c, behind)) = rest.split_first() {
+        match *c {
+            b'\n' => {
+                line += 1;
+                rest = behind;
             }
-            Word::NoNumber => return Listed::Wrong(feeds + 1),
+            b'#' => {
+                let (_comment, behind) = rest.split_at(line_length(rest));
+                rest = behind;
+            }
+            b' ' => rest = behind,
+            _ => {
+                let (word, behind) = rest.split_at(word_length(rest));
+                let Some(number) = number_of(word) else {
+                    return Err(WrongWord { line });
+                };
+                put(out, count, number);
+                count += 1;
+                rest = behind;
+            }
         }
     }
-    Listed::Numbers(n)
+    Ok(count)
 }
 
-// Where the line ends that a place is in: at the next line feed, or with the text.
-fn line_end(text: &[u8], at: usize) -> usize
-    ensures { result ≡ at + line_length (drop at text.now) }
+// How many characters stand before the first line feed of a text: all, where it has none.
+fn line_length(text: &[u8]) -> usize
+    ensures { result ≡ line_length text.now }
 {
-    let mut i = at;
-    while i < text.len() {
-        if text[i] == 10 {
-            return i;
-        }
-        i += 1;
-    }
-    i
+    text.iter().position(|c| *c == b'\n').unwrap_or(text.len())
 }
 
-// Where the word ends that begins at a place.
-fn word_end(text: &[u8], at: usize) -> usize
-    ensures { result ≡ at + word_length (drop at text.now) }
+// How many characters a text begins with that belong to a word.
+fn word_length(text: &[u8]) -> usize
+    ensures { result ≡ word_length text.now }
 {
-    let mut i = at;
-    while i < text.len() {
-        if !is_word(text[i]) {
-            return i;
-        }
-        i += 1;
-    }
-    i
+    text.iter().position(|c| !is_word(*c)).unwrap_or(text.len())
 }
 
 // Does a character belong to a word?
+#[tactic(auto, unfolding(crate::specs::Inner::is_word))]
 fn is_word(c: u8) -> bool
     ensures { result ≡ is_word c }
 {
-    if c == 10 {
-        return false;
-    }
-    if c == 35 {
-        return false;
-    }
-    c != 32
+    !matches!(c, b'\n' | b'#' | b' ')
 }
 
 // The number that a word says, where 32 bits hold it.
-fn number_of(word: &[u8]) -> Word
+fn number_of(word: &[u8]) -> Option<i32>
     ensures { result ≡ number_of word.now }
 {
-    match parse::number_in(word) {
-        Word::Number(x) => small(x),
-        Word::NoNumber => Word::NoNumber,
-    }
-}
-
-// A number, where 32 bits hold it.
-fn small(x: i64) -> Word
-    ensures { result ≡ held (Word.Number x) }
-{
-    if x < -2147483648 {
-        return Word::NoNumber;
-    }
-    if 2147483647 < x {
-        return Word::NoNumber;
-    }
-    Word::Number(x)
+    i32::try_from(parse::number_in(word)?).ok()
 }
 
 // Puts a number at place n, where there is one.
-fn put(out: &mut [i32], n: usize, x: i64)
-    requires { fits x ≡ true }
+fn put(out: &mut [i32], n: usize, x: i32)
     ensures { out.new ≡ set out.old n x }
 {
-    if out.len() <= n {
-        return;
+    if n < out.len() {
+        out[n] = x;
     }
-    out[n] = x as i32;
 }

@@ -1,16 +1,17 @@
--- `number_list::number_of`: the number is passed on as it is. Assumes nothing.
-use Rattle.std.proofs.Common.{ℤ, ◌≡◌, sym, ap, ◌∙◌, of_z, to_z, w64, rules}
-use mir.Facts.{to_z-of_z}
-use Rattle.parse.specs.declared.Word.TheVariants.{Number}
+-- `number_list::number_of`: the number is passed on where it fits. Assumes nothing.
+use Rattle.std.proofs.Common.{◌≡◌, ap, ◌∙◌, ℤ, of_z, to_z, w64, Some, rules}
+use Rattle.std.proofs.lemmas.Int.{to_z-of_z}
 use Rattle.number_list.specs.Numbers.{held, number_of}
+use Rattle.number_list.proofs.Held.{ok_held}
 use Rattle.number_list.proofs.number_of.Goals as goal
 
-pub returns-in-Number : goal.returns-in-Number
+pub returns-in_err-number_in : goal.returns-in_err-number_in
 unfolding number_of
-returns-in-Number c =
-    let passed : to_z w64 (of_z w64 c.in-Number.x) ≡ c.in-Number.x = to_z-of_z {w = w64} (search rules) in
-    c.small.ensures ∙ ap (λ (z : ℤ). held (Number z)) passed ∙ ap held (sym c.in-Number.is ∙ c.number_in.ensures)
+returns-in_err-number_in c = c.from_residual.ensures ∙ ap held c.in_err-number_in.ensures
 
-pub returns-in-NoNumber : goal.returns-in-NoNumber
+pub returns : goal.returns
 unfolding number_of
-returns-in-NoNumber c = ap held (sym c.in-NoNumber.is ∙ c.number_in.ensures)
+returns c =
+    let x = c.in_ok-number_in.field-0 in
+    let passed : to_z w64 (of_z w64 x) ≡ x = to_z-of_z w64 x (search rules) in
+    c.ok.ensures.value ∙ ok_held _ _ c.try_from.ensures ∙ ap (λ (z : ℤ). held (Some z)) passed ∙ ap held c.in_ok-number_in.ensures
