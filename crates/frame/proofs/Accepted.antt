@@ -27,9 +27,9 @@ use Rattle.grid.proofs.Usable.{usable-weaken}
 use Rattle.layout.specs.declared.Layout.{Layout}
 use Rattle.layout.specs.declared.Header.{Header}
 use Rattle.layout.specs.Layout.{version1, record_start}
+use Rattle.layout.specs.Taken.{UsableLayout}
 use Rattle.layout.proofs.Bounds.{version1-usable, grid-within, count-lt}
 use Rattle.frame.specs.File.{header_of}
-use Rattle.frame.specs.Inner.{HasRecord, Followed}
 use Rattle.frame.specs.Questions.{header_questions, file_questions, kind_question, checked, contents, reading}
 
 -- Questions 1 to 7, by the two parts of the check.
@@ -86,8 +86,8 @@ pub record AcceptedFile (s : List ℕ) (h : Header) : Type 0 where
   pub version : h.version ≡ 1
   pub grid : UsableGrid (2 ^ 13) (2 ^ 8) h.grid
   pub count : h.count < 4096
-  pub records : (i : ℕ) → i < h.count → HasRecord s i
-  pub followed : (i : ℕ) → i + 1 < h.count → Followed s i
+  pub records : (i : ℕ) → i < h.count → record_start version1 i ≤ length s
+  pub followed : (i : ℕ) → i + 1 < h.count → record_start version1 i + 32 ≤ length s
 
 pub accepted : (s : List ℕ) (h : Header) → checked s ≡ gives h → AcceptedFile s h
 accepted s h e =
@@ -99,8 +99,8 @@ accepted s h e =
       version = p.version;
       grid = record { within = grid-within version1 version1-usable s; positive = p.edge };
       count = n;
-      records = λ i l. record { number = omega arith; start = omega (arith, p.whole) };
-      followed = λ i l. record { number = omega arith; room = omega (arith, p.whole) };
+      records = λ i l. omega (arith, p.whole);
+      followed = λ i l. omega (arith, p.whole);
     })
 
 module _ {s : List ℕ} {h : Header} (a : AcceptedFile s h) where
@@ -109,3 +109,11 @@ module _ {s : List ℕ} {h : Header} (a : AcceptedFile s h) where
 
   pub map-most : (cell_count h.grid + 7) / 8 ≤ 32768
   map-most = let g = a.grid.within in omega (arith, mul-le-mul (mul-le-mul g.x.most g.y.most) g.z.most)
+
+-- ---- what the reader of a record asks
+module _ (s : List ℕ) {h : Header} (e : checked s ≡ gives h) where
+  pub held : {i : ℕ} → i < h.count → UsableLayout version1 × (i < 4096) × (record_start version1 i ≤ length s)
+  held l = let a = accepted s h e in (version1-usable, omega (arith, a.count), a.records _ l)
+
+  pub followed : (i : ℕ) → i + 1 < h.count → record_start version1 i + 32 ≤ length s
+  followed = (accepted s h e).followed

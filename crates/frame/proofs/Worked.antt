@@ -8,14 +8,15 @@ use lib.ListN.{take}
 use Rattle.bits.specs.Field.{bit_at, field_at, signed_at}
 use Rattle.geometry.specs.declared.Point.{Point}
 use Rattle.geometry.specs.Geometry.{point, triangle}
+use Rattle.std.specs.Prelude.{Option, Some, None}
 use Rattle.refusal.specs.Limit.{gives, refused}
 use Rattle.refusal.specs.Questions.{answered, of_each}
 use Rattle.layout.specs.declared.Header.{Header}
 use Rattle.layout.specs.Values.{header_in, reserved_in, record_in, kind_in}
-use Rattle.frame.specs.declared.Checked.TheVariants.{Accepted}
-use Rattle.frame.specs.declared.Reading.TheVariants.{Found, NoRecord}
+use Rattle.layout.specs.declared.Record.{Record}
+use Rattle.frame.specs.declared.Reading.{Reading}
 use Rattle.frame.specs.File.{record_of}
-use Rattle.frame.specs.Questions.{checked, with_record, no_record, reading, said_check, said_reading}
+use Rattle.frame.specs.Questions.{checked, reading}
 
 -- ---- questions 1 to 5: version 2, edge 0, a last bit of 1, a grid beyond 8,191, no record though one is counted
 abbrev all-broken : List ℕ
@@ -91,30 +92,26 @@ last-record = refl
 abbrev values : Header
 values = record { version = 1; grid = record { nx = 2; ny = 2; nz = 2; edge = pos 10; origin = point (pos 0) (pos 0) (pos 0) }; count = 1 }
 
+abbrev reads : Header → Option Record → Reading
+reads h r = record { header = h; found = r }
+
 abbrev five : Point
 five = point (pos 5) (pos 5) (pos 5)
 
-pub first-record : reading (one-header ++ a-record 0x40) 0 ≡ gives (with_record values (record_of (one-header ++ a-record 0x40) 0))
+pub first-record : reading (one-header ++ a-record 0x40) 0 ≡ gives (reads values (Some (record_of (one-header ++ a-record 0x40) 0)))
 unfolding bit_at field_at signed_at header_in reserved_in record_in kind_in answered of_each reading
 first-record = refl
 
 -- of two records with the kinds 2 and 1 the second is read
 pub second-record : reading ((0x10 ∷ 0x41 ∷ 0x04 ∷ 0x28 ∷ 0x00 ∷ 0x00 ∷ 0x00 ∷ 0x00 ∷ 0x00 ∷ 0x00 ∷ 0x20 ∷ 0x00 ∷ []) ++ a-record 0x80 ++ a-record 0x40) 1
-    ≡ gives (with_record (record { version = 1; grid = values.grid; count = 2 }) (record { kind = 1; triangle = triangle five five five }))
+    ≡ gives (reads (record { version = 1; grid = values.grid; count = 2 }) (Some (record { kind = 1; triangle = triangle five five five })))
 unfolding bit_at field_at signed_at header_in reserved_in record_in kind_in answered of_each reading
 second-record = refl
 
-pub no_second : reading (one-header ++ a-record 0x40) 1 ≡ gives (no_record values)
+pub no_second : reading (one-header ++ a-record 0x40) 1 ≡ gives (reads values None)
 unfolding bit_at field_at signed_at header_in reserved_in record_in kind_in answered of_each reading
 no_second = refl
 
 pub read-refused : reading (three 0xc0) 0 ≡ refused 7 1
 unfolding bit_at field_at signed_at header_in reserved_in record_in kind_in answered of_each reading
 read-refused = refl
-
--- ---- what the answers' cases say
-pub said-check : said_check (Accepted values) ≡ gives values
-said-check = refl
-
-pub said-reading : (said_reading (Found values (record_of (three 0x40) 1)) ∷ said_reading (NoRecord values) ∷ []) ≡ (gives (with_record values (record_of (three 0x40) 1)) ∷ gives (no_record values) ∷ [])
-said-reading = refl

@@ -1,4 +1,3 @@
 pub mod File
 pub mod Questions
--- inner
-pub mod Inner
+pub mod Frame

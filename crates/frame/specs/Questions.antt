@@ -1,19 +1,14 @@
 -- The questions put to a frame file, in turn, and what the calls say. Definitions only.
-use Rattle.std.specs.Prelude.{Bool, cond, ◌&&◌, List, [], ◌∷◌, ◌++◌, ℕ, leb, ltb, eqb, ℤ, pos, ◌+ℤ◌, ◌*ℤ◌, length}
+use Rattle.std.specs.Prelude.{Some, None, Bool, cond, ◌&&◌, List, [], ◌∷◌, ◌++◌, ℕ, leb, ltb, eqb, ℤ, pos, ◌+ℤ◌, ◌*ℤ◌, length}
 use Rattle.std.specs.Int.Signed.{le_z, lt_z}
-use Rattle.refusal.specs.Limit.{Answer, gives, said_limit}
+use Rattle.refusal.specs.Limit.{Answer}
 use Rattle.refusal.specs.Questions.{Question, ◌asks◌, asks_of, answered, of_each}
 use Rattle.grid.specs.declared.Grid.{Grid}
 use Rattle.layout.specs.declared.Layout.{Layout}
 use Rattle.layout.specs.declared.Header.{Header}
-use Rattle.layout.specs.declared.Record.{Record}
 use Rattle.layout.specs.Layout.{version1, record_start}
 use Rattle.layout.specs.Values.{reserved_in, kind_in, from_record}
-use Rattle.frame.specs.declared.Checked.{Checked}
-use Rattle.frame.specs.declared.Checked.TheVariants.{Accepted, Refused}
 use Rattle.frame.specs.declared.Reading.{Reading}
-use Rattle.frame.specs.declared.Reading.TheVariants as R
-use Rattle.frame.specs.declared.Reading.TheVariants.{Found, NoRecord}
 use Rattle.frame.specs.File.{header_of, record_of}
 
 -- ---- the questions put to a file
@@ -54,24 +49,9 @@ file_questions s = questions_by version1 (header_of s) s
 unfoldable pub checked : List ℕ → Answer Header
 checked s = answered (file_questions s) (header_of s)
 
--- A plain reading gives the header's values with a record's, or with "no record".
-pub data Contents : Type 0 where
-  with_record : Header → Record → Contents
-  no_record : Header → Contents
+-- A plain reading gives the header's values with a record's, or with none where the record number is not below the count.
+abbrev pub contents : List ℕ → Header → ℕ → Reading
+contents s h i = record { header = h; found = cond (ltb i h.count) (Some (record_of s i)) None }
 
--- Where the record number is not below the count there is no record.
-abbrev pub contents : List ℕ → Header → ℕ → Contents
-contents s h i = cond (ltb i h.count) (with_record h (record_of s i)) (no_record h)
-
-unfoldable pub reading : List ℕ → ℕ → Answer Contents
+unfoldable pub reading : List ℕ → ℕ → Answer Reading
 reading s i = answered (file_questions s) (contents s (header_of s) i)
-
--- ---- what each case of the code's enums says
-abbrev pub said_check : Checked → Answer Header
-said_check (Accepted h) = gives h
-said_check (Refused l) = said_limit l
-
-abbrev pub said_reading : Reading → Answer Contents
-said_reading (Found h r) = gives (with_record h r)
-said_reading (NoRecord h) = gives (no_record h)
-said_reading (R.Refused l) = said_limit l

@@ -2,3 +2,4 @@ pub mod Limit
 pub mod Questions
 -- inner
 pub mod Inner
+pub mod Coded
