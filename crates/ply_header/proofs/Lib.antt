@@ -6,7 +6,7 @@ mod Texts
 mod Comments
 -- Counts, digit by digit.
 mod Counts
--- The header by groups of lines.
-mod Groups
+-- No count above a limit.
+mod Roomy
 -- A header that was written is read.
 pub mod Written

@@ -6,6 +6,7 @@
 --     axis-at         a property of a vertex
 --     header-back     the header
 -- Assumes nothing.
+use Rattle.std.specs.Prelude.{Option, Some, None}
 use mathlib.Core.Bool.{true, false}
 use mathlib.Core.List.{List, [], ◌∷◌, ◌++◌, append_assoc}
 use mathlib.Core.Path.{◌≡◌, refl, sym, ap, ◌∙◌}
@@ -17,15 +18,8 @@ use lib.ListN.{length, get_or, drop, length-append}
 use lib.Seq.{drop-drop, drop-append_seam, get_or-drop}
 use Rattle.ply_header.specs.declared.Scalar.{Scalar}
 use Rattle.ply_header.specs.declared.Scalar.TheVariants.{Float, Double, Int}
-use Rattle.ply_header.specs.declared.Found.{Found}
-use Rattle.ply_header.specs.declared.Found.TheVariants.{At, Absent}
-use Rattle.ply_header.specs.declared.Counted.{Counted}
-use Rattle.ply_header.specs.declared.Counted.TheVariants.{Count}
-use Rattle.ply_header.specs.declared.Axis.{Axis}
-use Rattle.ply_header.specs.declared.Axis.TheVariants.{Typed}
-use Rattle.ply_header.specs.declared.Header.TheVariants.{Taken}
-use Rattle.ply_header.specs.Text.{bytes, behind, comment, past, past_comments, line, digit, count_from, count, counted}
-use Rattle.ply_header.specs.Header.{scalar, axis, and_then, and_count, and_axis, header}
+use Rattle.ply_header.specs.Text.{bytes, and_then, and_read, behind, comment, past, past_comments, line, digit, count_from, count, counted}
+use Rattle.ply_header.specs.Header.{scalar, axis, header}
 use Rattle.ply_header.specs.Format.{name_of, Spells, one, more, header_text}
 
 -- ---- what a file holds from a place on
@@ -51,13 +45,13 @@ within : {s rest : List ℕ} {at c : ℕ} → Stand s at (c ∷ rest) → at < l
 within h = omega (arith, h.long)
 
 -- ---- texts
-stands : {s : List ℕ} {at : ℕ} (text rest : List ℕ) → Stand s at (text ++ rest) → behind s at text ≡ At (at + length text)
+stands : {s : List ℕ} {at : ℕ} (text rest : List ℕ) → Stand s at (text ++ rest) → behind s at text ≡ Some (at + length text)
 unfolding behind
-stands [] rest h = ap At (omega arith)
+stands [] rest h = ap Some (omega arith)
 stands {s} {at} (c ∷ text) rest h =
-    rw (lt-ltb at (length s) (within h), eq-eqb (get_or s at 0) c (here h)) (stands {at = at + 1} text rest (onward (c ∷ []) (text ++ rest) h) ∙ ap At (omega arith))
+    rw (lt-ltb at (length s) (within h), eq-eqb (get_or s at 0) c (here h)) (stands {at = at + 1} text rest (onward (c ∷ []) (text ++ rest) h) ∙ ap Some (omega arith))
 
-absent : {s rest : List ℕ} {at c : ℕ} (d : ℕ) (text : List ℕ) → Stand s at (c ∷ rest) → eqb c d ≡ false → behind s at (d ∷ text) ≡ Absent
+absent : {s rest : List ℕ} {at c : ℕ} (d : ℕ) (text : List ℕ) → Stand s at (c ∷ rest) → eqb c d ≡ false → behind s at (d ∷ text) ≡ None
 unfolding behind
 absent {s} {at = at} d text h e = rw (lt-ltb at (length s) (within h), here h, e)
 
@@ -67,19 +61,19 @@ unfolding comment past past_comments
 no-comment h e = rw (h.is, absent 99 (bytes "omment\n") h e, absent 99 (bytes "omment ") h e)
 
 -- ---- what is found, and what the file holds behind it
-record Past (s rest : List ℕ) (found : Found) : Type 0 where
+record Past (s rest : List ℕ) (found : Option ℕ) : Type 0 where
   to : ℕ
-  is : found ≡ At to
+  is : found ≡ Some to
   next : Stand s to rest
 
-record PastCount (s rest : List ℕ) (n : ℕ) (found : Counted) : Type 0 where
+record PastCount (s rest : List ℕ) (n : ℕ) (found : Option (ℕ × ℕ)) : Type 0 where
   to : ℕ
-  is : found ≡ Count n to
+  is : found ≡ Some (n, to)
   next : Stand s to rest
 
-record PastType (s rest : List ℕ) (t : Scalar) (found : Axis) : Type 0 where
+record PastType (s rest : List ℕ) (t : Scalar) (found : Option (Scalar × ℕ)) : Type 0 where
   to : ℕ
-  is : found ≡ Typed t to
+  is : found ≡ Some (t, to)
   next : Stand s to rest
 
 module _ {s : List ℕ} where
@@ -114,7 +108,7 @@ first-digit (one d l) rest = rw (le-leb 48 (48 + d) (omega arith), le-leb (48 + 
 first-digit (more {ds} d l h) rest = ap (λ (t : List ℕ). digit (get_or t 0 0)) (append_assoc ds ((48 + d) ∷ []) rest) ∙ first-digit h ((48 + d) ∷ rest)
 
 module _ {s : List ℕ} where
-  count_at : {at : ℕ} {ds : List ℕ} {n : ℕ} (said : Spells ds n) (rest : List ℕ) → Stand s at (ds ++ 10 ∷ rest) → count s at ≡ Count n (at + length ds + 1)
+  count_at : {at : ℕ} {ds : List ℕ} {n : ℕ} (said : Spells ds n) (rest : List ℕ) → Stand s at (ds ++ 10 ∷ rest) → count s at ≡ Some (n, at + length ds + 1)
   unfolding count count_from digit
   count_at {at} {ds} said rest h =
       let first : get_or s at 0 ≡ get_or (ds ++ 10 ∷ rest) 0 0 = ap (λ (i : ℕ). get_or s i 0) (omega arith) ∙ sym (get_or-drop at s 0 0) ∙ ap (λ (l : List ℕ). get_or l 0 0) h.is in
@@ -122,7 +116,7 @@ module _ {s : List ℕ} where
 
   counted-at : {at : ℕ} (c : ℕ) (text : List ℕ) {ds : List ℕ} {n : ℕ} (said : Spells ds n) (rest : List ℕ) → eqb c 99 ≡ false
       → Stand s at ((c ∷ text) ++ (ds ++ 10 ∷ rest)) → PastCount s rest n (counted s at (c ∷ text))
-  unfolding counted
+  unfolding and_then counted
   counted-at c text {ds} said rest e h =
       let l = line_at c text (ds ++ 10 ∷ rest) e h in
       record {
@@ -143,7 +137,7 @@ module _ {s : List ℕ} where
       record { to = l.to; is = rw (absent 102 (bytes "loat ") h refl, absent 100 (bytes "ouble ") h refl, l.is); next = l.next }
 
   axis-at : {at : ℕ} (t : Scalar) (name rest : List ℕ) → Stand s at (bytes "property " ++ (name_of t ++ 32 ∷ (name ++ rest))) → PastType s rest t (axis s at name)
-  unfolding axis
+  unfolding and_then and_read axis
   axis-at t name rest h =
       let a = line_at 112 (bytes "roperty ") (name_of t ++ 32 ∷ (name ++ rest)) refl h in
       let b = scalar-at t (name ++ rest) a.next in
@@ -153,17 +147,17 @@ module _ {s : List ℕ} where
 -- ---- the header
 -- line by line
 whole : (s : List ℕ) {a b c d e f g h body n k : ℕ} {x y z : Scalar}
-    → behind s 0 (bytes "ply\n") ≡ At a
-    → line s a (bytes "format binary_little_endian 1.0\n") ≡ At b
-    → counted s b (bytes "element vertex ") ≡ Count n c
-    → axis s c (bytes "x\n") ≡ Typed x d
-    → axis s d (bytes "y\n") ≡ Typed y e
-    → axis s e (bytes "z\n") ≡ Typed z f
-    → counted s f (bytes "element face ") ≡ Count k g
-    → line s g (bytes "property list uchar int vertex_indices\n") ≡ At h
-    → line s h (bytes "end_header\n") ≡ At body
-    → header s ≡ Taken (record { x = x; y = y; z = z; vertices = n; faces = k; body = body })
-unfolding and_then and_count and_axis header
+    → behind s 0 (bytes "ply\n") ≡ Some a
+    → line s a (bytes "format binary_little_endian 1.0\n") ≡ Some b
+    → counted s b (bytes "element vertex ") ≡ Some (n, c)
+    → axis s c (bytes "x\n") ≡ Some (x, d)
+    → axis s d (bytes "y\n") ≡ Some (y, e)
+    → axis s e (bytes "z\n") ≡ Some (z, f)
+    → counted s f (bytes "element face ") ≡ Some (k, g)
+    → line s g (bytes "property list uchar int vertex_indices\n") ≡ Some h
+    → line s h (bytes "end_header\n") ≡ Some body
+    → header s ≡ Some (record { x = x; y = y; z = z; vertices = n; faces = k; body = body })
+unfolding and_then and_read header
 whole s p q r t u v w j l = rw (p, q, r, t, u, v, w, j, l)
 
 -- its parts, bracketed as they are read
@@ -175,7 +169,7 @@ regroup a b c n l p x u y v z w f k q e rest = simp append_assoc
 -- the place behind the header, and the file there
 record Read (x y z : Scalar) (n k : ℕ) (rest s : List ℕ) : Type 0 where
   to : ℕ
-  is : header s ≡ Taken (record { x = x; y = y; z = z; vertices = n; faces = k; body = to })
+  is : header s ≡ Some (record { x = x; y = y; z = z; vertices = n; faces = k; body = to })
   next : Stand s to rest
 
 module _ (x y z : Scalar) {vs fs : List ℕ} {n k : ℕ} (v : Spells vs n) (f : Spells fs k) (rest : List ℕ) where
@@ -211,7 +205,7 @@ module _ (x y z : Scalar) {vs fs : List ℕ} {n k : ℕ} (v : Spells vs n) (f : 
       }
 
   pub header-back : header (header_text x y z vs fs ++ rest)
-      ≡ Taken (record { x = x; y = y; z = z; vertices = n; faces = k; body = length (header_text x y z vs fs) })
+      ≡ Some (record { x = x; y = y; z = z; vertices = n; faces = k; body = length (header_text x y z vs fs) })
   unfolding header_text
   header-back =
       let text = header_text x y z vs fs in
@@ -222,4 +216,4 @@ module _ (x y z : Scalar) {vs fs : List ℕ} {n k : ℕ} (v : Spells vs n) (f : 
       in
       let l = lines (text ++ rest) start in
       let body : l.to ≡ length text = omega (arith, l.next.long, length-append text rest) in
-      l.is ∙ ap (λ (b : ℕ). Taken (record { x = x; y = y; z = z; vertices = n; faces = k; body = b })) body
+      l.is ∙ ap (λ (b : ℕ). Some (record { x = x; y = y; z = z; vertices = n; faces = k; body = b })) body

@@ -5,4 +5,4 @@ use Rattle.ply_header.proofs.read_line.Goals as goal
 
 pub returns : goal.returns
 unfolding line
-returns c = c.read_word.ensures ∙ ap (λ (i : ℕ). behind c.args.s.now i c.args.text.now) c.skip_comments-start.ensures
+returns c = c.read_word.ensures ∙ ap (λ (i : ℕ). behind c.args.s.now i c.args.text.now) c.skip_comments.ensures

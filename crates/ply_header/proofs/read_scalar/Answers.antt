@@ -1,24 +1,20 @@
 -- `ply_header::read_scalar`: the scalar types in turn.
-use Rattle.std.proofs.Common.{sym, ◌∙◌}
+use Rattle.std.proofs.Common.{sym}
 use Rattle.ply_header.specs.Header.{scalar}
 use Rattle.ply_header.proofs.read_scalar.Goals as goal
 
-pub returns-in-At : goal.returns-in-At
+pub returns-in-Some : goal.returns-in-Some
 unfolding scalar
-returns-in-At c = rw (sym c.read_word.ensures ∙ c.in-At.is)
+returns-in-Some c = rw (sym c.in-Some.ensures)
 
-pub returns-in-At-read_word : goal.returns-in-At-read_word
+pub returns-in-Some-read_word : goal.returns-in-Some-read_word
 unfolding scalar
-returns-in-At-read_word c = rw (sym c.read_word.ensures ∙ c.in_default.is, sym c.read_word-2.ensures ∙ c.in-At-read_word.is)
+returns-in-Some-read_word c = rw (sym c.in_default.ensures, sym c.in-Some-read_word.ensures)
 
-pub returns-in-At-read_word-2 : goal.returns-in-At-read_word-2
+pub returns-in-Some-read_word-2 : goal.returns-in-Some-read_word-2
 unfolding scalar
-returns-in-At-read_word-2 c =
-    rw
-    (sym c.read_word.ensures ∙ c.in_default.is, sym c.read_word-2.ensures ∙ c.in_default-read_word.is, sym c.read_word-3.ensures ∙ c.in-At-read_word-2.is)
+returns-in-Some-read_word-2 c = rw (sym c.in_default.ensures, sym c.in_default-read_word.ensures, sym c.in-Some-read_word-2.ensures)
 
 pub returns : goal.returns
 unfolding scalar
-returns c =
-    rw
-    (sym c.read_word.ensures ∙ c.in_default.is, sym c.read_word-2.ensures ∙ c.in_default-read_word.is, sym c.read_word-3.ensures ∙ c.in_default-read_word-2.is)
+returns c = rw (sym c.in_default.ensures, sym c.in_default-read_word.ensures, sym c.in_default-read_word-2.ensures)

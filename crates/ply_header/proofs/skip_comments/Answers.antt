@@ -1,22 +1,21 @@
--- `ply_header::skip_comments`: each turn is a character of a comment, or the word that begins one.
-use Rattle.std.proofs.Common.{sym, ◌∙◌, arith}
-use Rattle.ply_header.proofs.Comments.{passed, begins, inside, word, over, ends}
+-- `ply_header::skip_comments`: each turn is a comment.
+use Rattle.std.proofs.Common.{sym, arith}
+use Rattle.ply_header.proofs.Comments.{passed, begins, word, over}
 use Rattle.ply_header.proofs.skip_comments.Goals as goal
 
-pub loop-i-init : goal.loop-i-init
-loop-i-init c = begins _ _
+pub loop-j-init : goal.loop-j-init
+loop-j-init c = begins _ _
 
-pub loop-i-preserved-then-inside : goal.loop-i-preserved-then-inside
-loop-i-preserved-then-inside c = inside c.loop-i.invariant c.if-inside.true c.loop-i-test.true
+pub line_end-i-requires : goal.line_end-i-requires
+line_end-i-requires c = (passed c.args.s.now c.loop-j.i _ (sym c.in-Some.ensures)).1
 
-pub returns-in_default : goal.returns-in_default
-returns-in_default c = over c.loop-i.invariant c.if-inside.false c.loop-i-test.true (sym c.comment_word.ensures ∙ c.in_default.is)
+pub loop-j-smaller : goal.loop-j-smaller
+loop-j-smaller c =
+    let p = passed c.args.s.now c.loop-j.i _ (sym c.in-Some.ensures) in
+    omega (arith, c.line_end-i.ensures.bound)
 
-pub loop-i-smaller : goal.loop-i-smaller
-loop-i-smaller c = omega (arith, (passed c.args.s.now c.loop-i.i _ (sym c.comment_word.ensures ∙ c.in-At.is)).0)
-
-pub loop-i-preserved : goal.loop-i-preserved
-loop-i-preserved c = word c.loop-i.invariant c.if-inside.false (sym c.comment_word.ensures ∙ c.in-At.is)
+pub loop-j-preserved : goal.loop-j-preserved
+loop-j-preserved c = word c.loop-j.invariant (sym c.in-Some.ensures) c.line_end-i.ensures.same
 
 pub returns : goal.returns
-returns c = ends _ c.loop-i.invariant c.loop-i-test.false
+returns c = over c.loop-j.invariant (sym c.in_default.ensures)
