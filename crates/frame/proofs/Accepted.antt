@@ -27,8 +27,7 @@ use Rattle.grid.proofs.Usable.{usable-weaken}
 use Rattle.layout.specs.declared.Layout.{Layout}
 use Rattle.layout.specs.declared.Header.{Header}
 use Rattle.layout.specs.Layout.{version1, record_start}
-use Rattle.layout.specs.Taken.{UsableLayout}
-use Rattle.layout.proofs.Bounds.{version1-usable, grid-within, count-lt}
+use Rattle.layout.proofs.Bounds.{grid-within, count-lt}
 use Rattle.frame.specs.File.{header_of}
 use Rattle.frame.specs.Questions.{header_questions, file_questions, kind_question, checked, contents, reading}
 
@@ -92,12 +91,12 @@ pub record AcceptedFile (s : List ℕ) (h : Header) : Type 0 where
 pub accepted : (s : List ℕ) (h : Header) → checked s ≡ gives h → AcceptedFile s h
 accepted s h e =
     let p = header-passed version1 (header_of s) s (both-passed _ _ (sym (file-questions s) ∙ questions-passed s h e)).0 in
-    let n = count-lt version1 version1-usable s in
+    let n = count-lt version1 s in
     rw (← header_is s h e)
     (record {
       header = refl;
       version = p.version;
-      grid = record { within = grid-within version1 version1-usable s; positive = p.edge };
+      grid = record { within = grid-within version1 s; positive = p.edge };
       count = n;
       records = λ i l. omega (arith, p.whole);
       followed = λ i l. omega (arith, p.whole);
@@ -112,8 +111,8 @@ module _ {s : List ℕ} {h : Header} (a : AcceptedFile s h) where
 
 -- ---- what the reader of a record asks
 module _ (s : List ℕ) {h : Header} (e : checked s ≡ gives h) where
-  pub held : {i : ℕ} → i < h.count → UsableLayout version1 × (i < 4096) × (record_start version1 i ≤ length s)
-  held l = let a = accepted s h e in (version1-usable, omega (arith, a.count), a.records _ l)
+  pub held : {i : ℕ} → i < h.count → (i < 4096) × (record_start version1 i ≤ length s)
+  held l = let a = accepted s h e in (omega (arith, a.count), a.records _ l)
 
   pub followed : (i : ℕ) → i + 1 < h.count → record_start version1 i + 32 ≤ length s
   followed = (accepted s h e).followed

@@ -11,7 +11,7 @@ ghost use Rattle.refusal.specs.Inner.{asked};
 ghost use Rattle.grid.specs.Usable.{GridWithin};
 ghost use Rattle.layout.specs.Layout.{record_start};
 ghost use Rattle.layout.specs.Values.{reserved_in};
-ghost use Rattle.layout.specs.Taken.{UsableLayout, BoundedHeader};
+ghost use Rattle.layout.specs.Taken.{BoundedHeader};
 ghost use Rattle.frame.specs.File.{record_of};
 ghost use Rattle.frame.specs.Questions.{axis_fits, extent_fits, header_questions, kind_question, checked, reading};
 
@@ -131,7 +131,7 @@ pub fn extent_fits(farthest: i64, g: Grid) -> bool
 
 // Questions 1 to 6, put to a file whose header has been read.
 fn check_header(layout: Layout, file: &[u8], header: Header, reserved: u32) -> Result<(), Limit>
-    requires { UsableLayout layout × BoundedHeader header × (reserved ≡ reserved_in layout file.now) }
+    requires { BoundedHeader header × (reserved ≡ reserved_in layout file.now) }
     ensures { said result ≡ asked (header_questions layout header file.now) }
 {
     if file.len() < layout.header {
@@ -158,7 +158,7 @@ fn check_header(layout: Layout, file: &[u8], header: Header, reserved: u32) -> R
 
 // Question 7, put to the first `count` records, which the file has.
 fn check_kinds(layout: Layout, file: &[u8], count: usize) -> Result<(), Limit>
-    requires { UsableLayout layout × (count < 4096) × (record_start layout count ≤ length file.now) }
+    requires { (count < 4096) × (record_start layout count ≤ length file.now) }
     ensures { said result ≡ asked (of_each (kind_question layout file.now) count) }
 {
     for i in 0..count {

@@ -27,14 +27,14 @@ pub returns-then-g-le0 : goal.returns-then-g-le0
 unfolding answered
 returns-then-g-le0 c =
     let h = c.args.header.grid.edge in
-    rw (le-leb _ _ c.if-file-layout.false, eq-eqb _ _ c.if-header-ne1.false, false-lt (pos 0) h (le-true h (pos 0) (rw (edge-back c.requires.1) at c.if-g-le0.true)))
+    rw (le-leb _ _ c.if-file-layout.false, eq-eqb _ _ c.if-header-ne1.false, false-lt (pos 0) h (le-true h (pos 0) (rw (edge-back c.requires.0) at c.if-g-le0.true)))
 
 pub returns-then-reserved-ne0 : goal.returns-then-reserved-ne0
 unfolding answered
 returns-then-reserved-ne0 c =
     let h = c.args.header.grid.edge in
-    let no4 = ne_eqb _ 0 (λ e. c.if-reserved-ne0.true (c.requires.2 ∙ e)) in
-    rw (le-leb _ _ c.if-file-layout.false, eq-eqb _ _ c.if-header-ne1.false, true-lt (pos 0) h (le-false h (pos 0) (rw (edge-back c.requires.1) at c.if-g-le0.false)), no4)
+    let no4 = ne_eqb _ 0 (λ e. c.if-reserved-ne0.true (c.requires.1 ∙ e)) in
+    rw (le-leb _ _ c.if-file-layout.false, eq-eqb _ _ c.if-header-ne1.false, true-lt (pos 0) h (le-false h (pos 0) (rw (edge-back c.requires.0) at c.if-g-le0.false)), no4)
 
 -- the extent's answer
 extent : (g : Grid) {f : ℤ} {r : Bool} → FitsSigned w64 f → r ≡ extent_fits (to_z w64 (of_z w64 f)) g → r ≡ extent_fits f g
@@ -47,8 +47,8 @@ returns-then-not-extent_fits c =
     rw (
       le-leb _ _ c.if-file-layout.false,
       eq-eqb _ _ c.if-header-ne1.false,
-      true-lt (pos 0) h (le-false h (pos 0) (rw (edge-back c.requires.1) at c.if-g-le0.false)),
-      eq-eqb _ _ (sym c.requires.2 ∙ c.if-reserved-ne0.false),
+      true-lt (pos 0) h (le-false h (pos 0) (rw (edge-back c.requires.0) at c.if-g-le0.false)),
+      eq-eqb _ _ (sym c.requires.1 ∙ c.if-reserved-ne0.false),
       sym (extent c.args.header.grid {f = c.args.layout.farthest} (search rules) c.extent_fits.ensures) ∙ c.if-not-extent_fits.true,
     )
 
@@ -59,8 +59,8 @@ returns-then-file-record_start c =
     rw (
       le-leb _ _ c.if-file-layout.false,
       eq-eqb _ _ c.if-header-ne1.false,
-      true-lt (pos 0) h (le-false h (pos 0) (rw (edge-back c.requires.1) at c.if-g-le0.false)),
-      eq-eqb _ _ (sym c.requires.2 ∙ c.if-reserved-ne0.false),
+      true-lt (pos 0) h (le-false h (pos 0) (rw (edge-back c.requires.0) at c.if-g-le0.false)),
+      eq-eqb _ _ (sym c.requires.1 ∙ c.if-reserved-ne0.false),
       sym (extent c.args.header.grid {f = c.args.layout.farthest} (search rules) c.extent_fits.ensures) ∙ c.if-not-extent_fits.false,
       ne_eqb _ _ (λ e. c.if-file-record_start.true (e ∙ sym c.record_start.ensures)),
     )
@@ -72,8 +72,8 @@ returns c =
     rw (
       le-leb _ _ c.if-file-layout.false,
       eq-eqb _ _ c.if-header-ne1.false,
-      true-lt (pos 0) h (le-false h (pos 0) (rw (edge-back c.requires.1) at c.if-g-le0.false)),
-      eq-eqb _ _ (sym c.requires.2 ∙ c.if-reserved-ne0.false),
+      true-lt (pos 0) h (le-false h (pos 0) (rw (edge-back c.requires.0) at c.if-g-le0.false)),
+      eq-eqb _ _ (sym c.requires.1 ∙ c.if-reserved-ne0.false),
       sym (extent c.args.header.grid {f = c.args.layout.farthest} (search rules) c.extent_fits.ensures) ∙ c.if-not-extent_fits.false,
       eq-eqb _ _ (c.if-file-record_start.false ∙ c.record_start.ensures),
     )

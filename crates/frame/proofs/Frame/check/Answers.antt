@@ -5,8 +5,8 @@ use Rattle.layout.specs.declared.Layout.{Layout}
 use Rattle.layout.specs.declared.HeaderFields.{HeaderFields}
 use Rattle.layout.specs.Layout.{version1}
 use Rattle.layout.specs.Values.{header_in}
-use Rattle.layout.specs.Taken.{UsableLayout, BoundedHeader, ReadHeader}
-use Rattle.layout.proofs.Bounds.{version1-usable, header-bounded}
+use Rattle.layout.specs.Taken.{BoundedHeader, ReadHeader}
+use Rattle.layout.proofs.Bounds.{header-bounded}
 use Rattle.refusal.specs.declared.Limit.{Limit}
 use Rattle.refusal.specs.Limit.{gives, said_limit}
 use Rattle.refusal.specs.Questions.{of_each}
@@ -21,14 +21,11 @@ use Rattle.frame.proofs.Frame.check.Goals as goal
 
 -- the layout and the header, as they are named in the contract
 module _ {l : Layout} {s : List ℕ} {f : HeaderFields} (v : l ≡ version1) (r : ReadHeader l s f) where
-  usable : UsableLayout l
-  usable = rw v version1-usable
-
   header : f.header ≡ header_of s
   header = r.header ∙ ap (λ (l : Layout). header_in l s) v
 
   bounded : BoundedHeader f.header
-  bounded = rw header (header-bounded version1 version1-usable s)
+  bounded = rw header (header-bounded version1 s)
 
   -- what the two parts of the check say
   by : checked s ≡ and_then (and_then (asked (header_questions l f.header s)) (asked (of_each (kind_question l s) f.header.count))) (gives f.header)
@@ -43,7 +40,7 @@ pub check_header-requires : goal.check_header-requires
 check_header-requires c =
     let v = c.version_1-layout.ensures in
     let r = c.read_header-fields.ensures in
-    (usable v r, bounded v r, r.reserved)
+    (bounded v r, r.reserved)
 
 pub returns-in_err-check_header-clause-said : goal.returns-in_err-check_header-clause-said
 returns-in_err-check_header-clause-said c =
@@ -54,7 +51,7 @@ check_kinds-requires c =
     let v = c.version_1-layout.ensures in
     let r = c.read_header-fields.ensures in
     let all = header-passed c.version_1-layout.result c.read_header-fields.result.header c.args.file.now (sym c.in_ok-check_header.ensures) in
-    (usable v r, (bounded v r).count, le_of_eq (sym all.whole))
+    ((bounded v r).count, le_of_eq (sym all.whole))
 
 pub returns-in_err-check_kinds-clause-said : goal.returns-in_err-check_kinds-clause-said
 returns-in_err-check_kinds-clause-said c =

@@ -1,7 +1,6 @@
 -- `Frame::record_inside` meets its contract: the record's 32 bytes are there.
 use Rattle.std.proofs.Common.{ap, length, length-drop, arith}
 use Rattle.layout.specs.Layout.{version1, record_start}
-use Rattle.layout.proofs.Bounds.{version1-usable}
 use Rattle.frame.proofs.Accepted.{held, followed}
 use Rattle.frame.proofs.Frame.record_inside.Goals as goal
 
@@ -13,4 +12,4 @@ read_record-requires c =
     let s = c.args.self.now.file.now in
     let room = followed s c.args.self.now.accepted c.args.i c.requires in
     let part = rw c.version_1-layout.ensures at c.from_record-bytes.ensures in
-    (rw c.version_1-layout.ensures version1-usable, omega (arith, ap length part, length-drop (record_start version1 c.args.i) s, room))
+    omega (arith, ap length part, length-drop (record_start version1 c.args.i) s, room)
