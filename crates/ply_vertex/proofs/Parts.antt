@@ -1,5 +1,4 @@
--- The bytes of a number and the numbers of a vertex.
---     word-is, long-is   four bytes, and two numbers of four
+-- The numbers of a vertex.
 --     first-in, second-in, third-in   each number of a vertex lies in it
 --     vertex-is          the vertex of its three numbers
 --     Three, placed-three   each number of a vertex that is placed
@@ -7,26 +6,14 @@
 use mathlib.Core.Bool.{true, ◌&&◌, and-eq-true_iff}
 use mathlib.Core.List.{List}
 use mathlib.Core.Path.{◌≡◌, ap, ◌∙◌}
-use Prim.Native.Nat.{ℕ, ◌+◌, ◌*◌, ◌≤◌}
+use Prim.Native.Nat.{ℕ, ◌+◌, ◌≤◌}
 use native.Mathlib.Omega.{arith}
-use lib.ListN.{get_or}
 use Rattle.rounding.specs.declared.Number.{Number}
 use Rattle.rounding.specs.declared.Vertex.{Vertex}
 use Rattle.rounding.specs.Rounding.{rounded_of, is_whole}
 use Rattle.rounding.specs.Widening.{widened_vertex}
 use Rattle.ply_header.specs.declared.Form.{Form}
-use Rattle.ply_vertex.specs.Vertex.{little_endian, width_of, number_at, size_of, vertex_at, placed}
-
-module _ (s : List ℕ) (at : ℕ) where
-  pub word-is : get_or s at 0 + get_or s (at + 1) 0 * 256 + get_or s (at + 2) 0 * 65536 + get_or s (at + 3) 0 * 16777216 ≡ little_endian s at 4
-  word-is = let first : get_or s (at + 0) 0 ≡ get_or s at 0 = ap (λ (p : ℕ). get_or s p 0) (omega arith) in omega arith
-
-  -- byte 4 + n
-  next : (n : ℕ) → get_or s (at + 4 + n) 0 ≡ get_or s (at + (4 + n)) 0
-  next n = ap (λ (p : ℕ). get_or s p 0) (omega arith)
-
-  pub long-is : little_endian s at 4 + little_endian s (at + 4) 4 * 4294967296 ≡ little_endian s at 8
-  long-is = omega (arith, next 0, next 1, next 2, next 3)
+use Rattle.ply_vertex.specs.Vertex.{width_of, number_at, size_of, vertex_at, placed}
 
 -- ---- the numbers of a vertex
 module _ (f : Form) (at : ℕ) {n : ℕ} (h : at + size_of f ≤ n) where

@@ -1,7 +1,7 @@
 // The numbers of a PLY body, the lowest byte first, and its vertices.
 #![tactic(auto)]
 
-ghost use Rattle.std.specs.Prelude.{true, false, ◌≡◌, ◌+◌, ◌*◌, ◌<◌, ◌≤◌, length};
+ghost use Rattle.std.specs.Prelude.{true, false, ◌≡◌, ◌+◌, ◌≤◌, length};
 ghost use Rattle.bits.specs.Field.{twos_complement};
 ghost use Rattle.rounding.specs.Rounding.{rounded_of, is_whole};
 ghost use Rattle.rounding.specs.Widening.{widened_of};
@@ -11,26 +11,12 @@ ghost use Rattle.ply_vertex.specs.Inner.{nan_at};
 use ply_header::{Form, Scalar};
 use rounding::{Number, Vertex};
 
-// A byte as a number of 32 bits.
-fn wide(x: u8) -> u32
-    ensures { (result ≡ x) × (result < 256) }
-{
-    x as u32
-}
-
-// The number of four bytes, the lowest first.
-fn join(a: u8, b: u8, c: u8, d: u8) -> u32
-    ensures { result ≡ a + b * 256 + c * 65536 + d * 16777216 }
-{
-    wide(a) + wide(b) * 256 + wide(c) * 65536 + wide(d) * 16777216
-}
-
 // The number of the four bytes from `at` on.
 pub fn word(s: &[u8], at: usize) -> u32
     requires { at + 4 ≤ length s.now }
     ensures { result ≡ little_endian s.now at 4 }
 {
-    join(s[at], s[at + 1], s[at + 2], s[at + 3])
+    u32::from_le_bytes([s[at], s[at + 1], s[at + 2], s[at + 3]])
 }
 
 // The number of the eight bytes from `at` on.
@@ -38,20 +24,15 @@ fn long_word(s: &[u8], at: usize) -> u64
     requires { at + 8 ≤ length s.now }
     ensures { result ≡ little_endian s.now at 8 }
 {
-    let low = word(s, at);
-    let high = word(s, at + 4);
-    low as u64 + high as u64 * 4294967296
+    u64::from(word(s, at)) + u64::from(word(s, at + 4)) * 4294967296
 }
 
-// The signed number of a bit pattern.
-fn signed(n: u32) -> i32
-    ensures { result ≡ twos_complement 32 n }
+// The signed number of the four bytes from `at` on.
+fn signed_word(s: &[u8], at: usize) -> i32
+    requires { at + 4 ≤ length s.now }
+    ensures { result ≡ twos_complement 32 (little_endian s.now at 4) }
 {
-    if n < 0x8000_0000 {
-        n as i32
-    } else {
-        (n as i64 - 4294967296) as i32
-    }
+    word(s, at).cast_signed()
 }
 
 // Does a pattern that is not a number stand at `at`? No operation may be done with its float before that is known.
@@ -74,7 +55,7 @@ fn number(t: Scalar, s: &[u8], at: usize) -> Number
     match t {
         Scalar::Float => Number::Float(f32::from_bits(word(s, at))),
         Scalar::Double => Number::Double(f64::from_bits(long_word(s, at))),
-        Scalar::Int => Number::Int(signed(word(s, at))),
+        Scalar::Int => Number::Int(signed_word(s, at)),
     }
 }
 
@@ -83,10 +64,7 @@ fn is_whole(t: Scalar, s: &[u8], at: usize) -> bool
     requires { at + width_of t ≤ length s.now }
     ensures { result ≡ is_whole (rounded_of (widened_of (number_at t s.now at))) }
 {
-    if is_nan(t, s, at) {
-        return false;
-    }
-    rounding::is_whole(rounding::widen(number(t, s, at)))
+    !is_nan(t, s, at) && rounding::is_whole(rounding::widen(number(t, s, at)))
 }
 
 // How many bytes a number of a type has.
@@ -104,10 +82,7 @@ fn width(t: Scalar) -> usize
 pub fn size(f: Form) -> usize
     ensures { (result ≡ size_of f) × (12 ≤ result) × (result ≤ 24) }
 {
-    let x = f.x;
-    let y = f.y;
-    let z = f.z;
-    width(x) + width(y) + width(z)
+    width(f.x) + width(f.y) + width(f.z)
 }
 
 // Is each number of the vertex at `at`? They stand one behind the other.
@@ -115,18 +90,9 @@ pub fn is_placed(s: &[u8], f: Form, at: usize) -> bool
     requires { at + size_of f ≤ length s.now }
     ensures { result ≡ placed (vertex_at s.now f at) }
 {
-    let x = f.x;
-    let y = f.y;
-    let z = f.z;
-    let second = at + width(x);
-    let third = second + width(y);
-    if !is_whole(x, s, at) {
-        return false;
-    }
-    if !is_whole(y, s, second) {
-        return false;
-    }
-    is_whole(z, s, third)
+    let second = at + width(f.x);
+    let third = second + width(f.y);
+    is_whole(f.x, s, at) && is_whole(f.y, s, second) && is_whole(f.z, s, third)
 }
 
 // The vertex at `at`, where each of its numbers is.
@@ -134,10 +100,11 @@ pub fn vertex(s: &[u8], f: Form, at: usize) -> Vertex
     requires { (at + size_of f ≤ length s.now) × (placed (vertex_at s.now f at) ≡ true) }
     ensures { result ≡ vertex_at s.now f at }
 {
-    let x = f.x;
-    let y = f.y;
-    let z = f.z;
-    let second = at + width(x);
-    let third = second + width(y);
-    rounding::widened(number(x, s, at), number(y, s, second), number(z, s, third))
+    let second = at + width(f.x);
+    let third = second + width(f.y);
+    rounding::widened(
+        number(f.x, s, at),
+        number(f.y, s, second),
+        number(f.z, s, third),
+    )
 }
