@@ -5,6 +5,7 @@
 -- Assumes nothing.
 use mathlib.Core.Bool.{Bool, true, false, cond}
 use mathlib.Core.List.Memᴰ
+use Rattle.std.specs.Prelude.{Some, None}
 use mathlib.Core.List.{List, Memᴰ}
 use mathlib.Core.Path.{◌≡◌, refl, ap, sym, ◌∙◌}
 use Prim.Native.Nat.{ℕ, zero, suc, ◌<◌}
@@ -19,7 +20,8 @@ use Rattle.layout.specs.declared.Record.{Record}
 use Rattle.grid.specs.Grid.{cell_count}
 use Rattle.frame.specs.File.{header_of, record_of}
 use Rattle.refusal.specs.Limit.{gives}
-use Rattle.frame.specs.Questions.{with_record, no_record, contents, file_questions, reading}
+use Rattle.frame.specs.declared.Reading.{Reading}
+use Rattle.frame.specs.Questions.{contents, file_questions, reading}
 use Rattle.refusal.proofs.Asking.{asked-given}
 use Rattle.map.specs.Map.{map_length, is_filled, count_below, tabulate}
 use Rattle.map.proofs.Counts.{count_same}
@@ -37,13 +39,12 @@ tabulated f (suc n) i l = go (ℕ_discrete i n) (tabulated f n i)
     go (yes e) again = Memᴰ.append_right (tabulate f n) (Memᴰ.head (ap f e))
     go (no e) again = Memᴰ.append_left _ (again (omega arith))
 
-pub record-counts : (s : List ℕ) (i : ℕ) (h : Header) (r : Record) → reading s i ≡ gives (with_record h r) → Memᴰ r.triangle (obstacles s)
+pub record-counts : (s : List ℕ) (i : ℕ) (h : Header) (r : Record) → reading s i ≡ gives (record { header = h; found = Some r }) → Memᴰ r.triangle (obstacles s)
 unfolding reading obstacles
-record-counts s i h r e = go (ltb i (header_of s).count) refl (asked-given (contents s (header_of s) i) (file_questions s) e).1
+record-counts s i h r e = go (ltb i (header_of s).count) refl (ap (λ (x : Reading). x.found) (asked-given (contents s (header_of s) i) (file_questions s) e).1)
   where
-    go : (b : Bool) → ltb i (header_of s).count ≡ b → cond b (with_record (header_of s) (record_of s i)) (no_record (header_of s)) ≡ with_record h r
-        → Memᴰ r.triangle (obstacles s)
-    go false l q = let z : ◌≡◌ {A = ℕ} 0 1 = cc in absurd (omega arith)
+    go : (b : Bool) → ltb i (header_of s).count ≡ b → cond b (Some (record_of s i)) None ≡ Some r → Memᴰ r.triangle (obstacles s)
+    go false l q = absurd cc
     go true l q =
         let same : record_of s i ≡ r = cc in
         rw (← same) (tabulated (λ j. (record_of s j).triangle) (header_of s).count i (ltb-true i _ l))

@@ -1,16 +1,14 @@
--- Worked examples, by computation on the definitions: question 8 of a file with nine cells and no triangle, the bytes that are left, and what the answer's cases say.
+-- Worked examples, by computation on the definitions: question 8 of a file with nine cells and no triangle, and the bytes that are left.
 -- Assumes nothing.
 use mathlib.Core.List.{List, [], ◌∷◌}
 use mathlib.Core.Path.{◌≡◌, refl}
 use Prim.Native.Nat.{ℕ}
 use Rattle.bits.specs.Field.{bit_at, field_at, signed_at}
-use Rattle.refusal.specs.declared.Limit.TheVariants.{UnusedKind}
 use Rattle.refusal.specs.Limit.{gives, refused}
 use Rattle.refusal.specs.Questions.{answered, of_each}
 use Rattle.map.specs.Map.{count_below, first_bits, tabulate, map_of}
 use Rattle.layout.specs.Values.{header_in, reserved_in, kind_in}
-use Rattle.fill.specs.declared.Filling.TheVariants.{Filled, Refused}
-use Rattle.fill.specs.Fill.{obstacles, any_of, filling, filled_bytes, said_filling}
+use Rattle.fill.specs.Fill.{obstacles, any_of, filling, filled_bytes}
 
 -- 9 × 1 × 1 cells, edge 10, origin 0
 abbrev nine : List ℕ
@@ -31,6 +29,3 @@ kept = refl
 pub emptied : filled_bytes nine (0xaa ∷ 0xbb ∷ 0xcc ∷ []) ≡ (0x00 ∷ 0x00 ∷ 0xcc ∷ [])
 unfolding bit_at field_at signed_at header_in reserved_in kind_in answered of_each count_below first_bits tabulate map_of obstacles any_of filling filled_bytes
 emptied = refl
-
-pub said : (said_filling (Filled 3) ∷ said_filling (Refused (UnusedKind 2)) ∷ []) ≡ (gives 3 ∷ refused 7 2 ∷ [])
-said = refl

@@ -1,7 +1,7 @@
 -- The obstacles of a frame file, the cells that they fill, and what a fill answers and leaves. Definitions only.
 use Rattle.std.specs.Prelude.{Bool, false, ◌||◌, List, [], ◌∷◌, ◌++◌, ℕ, leb, length, drop}
 use Rattle.geometry.specs.declared.Triangle.{Triangle}
-use Rattle.refusal.specs.Limit.{Answer, gives, said_limit, unless_refused}
+use Rattle.refusal.specs.Limit.{Answer, unless_refused}
 use Rattle.refusal.specs.Questions.{Question, ◌asks◌, answered}
 use Rattle.grid.specs.declared.Grid.{Grid}
 use Rattle.grid.specs.declared.Lattice.{Lattice}
@@ -10,8 +10,6 @@ use Rattle.map.specs.Map.{map_length, count_below, tabulate, map_of}
 use Rattle.overlap.specs.Cells.{overlaps_cell}
 use Rattle.frame.specs.File.{header_of, record_of}
 use Rattle.frame.specs.Questions.{file_questions}
-use Rattle.fill.specs.declared.Filling.{Filling}
-use Rattle.fill.specs.declared.Filling.TheVariants.{Filled, Refused}
 
 -- ---- the cells that are filled
 -- The obstacles (steel): the triangles of a file. All three kinds count alike.
@@ -52,8 +50,3 @@ unfoldable pub filled_bytes : (file map : List ℕ) → List ℕ
 filled_bytes s m =
     let cells = cell_count (grid_of s) in
     unless_refused (filling s m) (map_of (filled_in s) cells ++ drop (map_length cells) m) m
-
--- ---- what each case of the code's enum says
-abbrev pub said_filling : Filling → Answer ℕ
-said_filling (Filled n) = gives n
-said_filling (Refused l) = said_limit l

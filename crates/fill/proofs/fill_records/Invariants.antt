@@ -1,5 +1,5 @@
 -- `fill::fill_records`: the triangles before the loop's are in the map.
-use Rattle.std.proofs.Common.{ℕ, ◌+◌, ◌-◌, ◌≤◌, List, Bool}
+use Rattle.std.proofs.Common.{ℕ, ◌+◌, List, Bool}
 use Rattle.geometry.specs.declared.Triangle.{Triangle}
 use Rattle.grid.specs.declared.Grid.{Grid}
 use Rattle.grid.specs.declared.Lattice.{Lattice}
@@ -19,7 +19,4 @@ abbrev pub fills : Grid → Lattice → ℕ → Triangle → Bool
 fills g l n t = overlaps_cell g l t n
 
 abbrev pub invariant-loop-i : goal.invariant-loop-i
-invariant-loop-i l = (l.i ≤ l.count) × Adds (cell_count l.g) (λ n. any_of (fills l.g l.l n) (tabulate (record-at l.file l.first) l.i)) l.initial.map l.map
-
-abbrev pub decreases-loop-i : goal.decreases-loop-i
-decreases-loop-i l = l.count - l.i
+invariant-loop-i l = Adds (cell_count l.g) (λ n. any_of (fills l.g l.l n) (tabulate (record-at l.frame.file.now l.first) l.i)) l.initial.map l.map
