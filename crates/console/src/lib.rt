@@ -2,10 +2,13 @@
 // command that runs them has to know goes to standard error, in lines.
 #![tactic(auto)]
 
-ghost use Rattle.std.specs.Prelude.{◌≡◌, ◌↔◌, false, IsTrue, IsErr, IfOk, OnOk, ◌<◌, length, take};
+ghost use Rattle.std.specs.Prelude.{◌≡◌, ◌≢◌, ℕ, IfOk, IfErr, OnOk, MatchResult, ◌<◌, ◌≤◌, length, take};
 ghost use Rattle.std.specs.Io.KnownBytes.{Appends, Consumes, IsAtEnd};
 ghost use Rattle.io.specs.Counts.{IsPrefixLen};
 
+use refusal::{Limit, Refusal};
+use std::env::{Env, FillError};
+use std::fmt::Display;
 use std::io::{self, ErrorKind, Read, Stderr, Stdin, Stdout, Write};
 use std::process::ExitCode;
 
@@ -44,87 +47,144 @@ impl Streams for HostRuntime {
     }
 }
 
-// What was read: so many bytes at the start of the buffer, up to the end of the input or of the room for it. It is not whole
-// where a read failed.
-#[derive(Clone, Copy)]
-pub struct Input {
-    pub len: usize,
-    pub whole: bool,
+// Why a program ends before its answer is out. All but the last it has said on standard error.
+#[derive(Clone, Copy, Debug, PartialEq, Eq)]
+pub enum Stopped {
+    // An argument is no number of its type.
+    NoNumber,
+    // A read of standard input failed.
+    Unread,
+    // A write to standard output failed.
+    Lost,
+    // Nobody reads standard output any more. The program says nothing then.
+    Gone,
 }
-
-// Nobody reads standard output any more. The program ends at once then, and says nothing.
-#[derive(Clone, Copy)]
-pub struct Gone;
 
 // The status to end with: 0, or where nobody read the output any more that of a program which SIGPIPE ended.
-pub fn status(ended: Result<(), Gone>) -> ExitCode {
+pub fn status(ended: Result<(), Stopped>) -> ExitCode {
     match ended {
-        Ok(()) => ExitCode::SUCCESS,
-        Err(Gone) => ExitCode::from(141),
+        Err(Stopped::Gone) => ExitCode::from(141),
+        _ => ExitCode::SUCCESS,
     }
 }
 
-// Reads standard input until it ends or buf is full. Where a read fails, it says UNREAD: what came before is no input.
-pub fn read_input(rt: &impl Streams, buf: &mut [u8]) -> Input
-    ensures { IsPrefixLen result.len buf.new }
+// Reads arguments from the first on, as many as there are and there is room for, and answers how many. One that is no
+// number of the type it says: NUMBER and its place.
+pub fn read_arguments<T: TryFrom<i64> + Copy>(
+    rt: &(impl Streams + Env),
+    numbers: &mut [T],
+) -> Result<usize, Stopped>
+where
+    T::Error: Drop,
+    ensures within { IfOk result (λ count. count ≤ length numbers.new) }
+    ensures why { IfErr result (λ why. why ≡ Stopped.NoNumber) }
 {
-    let input = fill(&mut rt.input(), buf);
-    if !input.whole {
-        let _ = put(&mut rt.errors(), b"UNREAD\n");
+    let len = numbers.len();
+    for (i, number) in numbers.iter_mut().enumerate() {
+        let Some(x) = argument(rt, i + 1)? else {
+            return Ok(i);
+        };
+        *number = x;
     }
-    input
+    Ok(len)
 }
 
-// Writes the first len bytes to standard output, and answers whether all were taken. Where not, it says LOST; but nothing
-// where nobody reads them.
-pub fn send(rt: &impl Streams, out: &[u8], len: usize) -> Result<bool, Gone> {
-    match write(&mut rt.output(), out, len) {
-        Ok(()) => Ok(true),
-        Err(error) => lose(rt, error.kind()),
-    }
-}
-
-// What an error of this kind means for the output: nobody reads it, or it is lost.
-fn lose(rt: &impl Streams, kind: ErrorKind) -> Result<bool, Gone>
-    ensures gone { IsErr result ↔ (kind ≡ ErrorKind.BrokenPipe) }
-    ensures lost { IfOk result (λ taken. taken ≡ false) }
+// Reads as many arguments as there is room for. A missing one is no number.
+pub fn read_all_arguments<T: TryFrom<i64> + Copy>(
+    rt: &(impl Streams + Env),
+    numbers: &mut [T],
+) -> Result<(), Stopped>
+where
+    T::Error: Drop,
+    ensures { IfErr result (λ why. why ≡ Stopped.NoNumber) }
 {
-    if kind == ErrorKind::BrokenPipe {
-        return Err(Gone);
-    }
-    let _ = put(&mut rt.errors(), b"LOST\n");
-    Ok(false)
-}
-
-// Writes the line of a refusal, the first len bytes, to standard output, and says it to the command too.
-pub fn refuse(rt: &impl Streams, out: &[u8], len: usize) -> Result<(), Gone> {
-    if send(rt, out, len)? {
-        say(rt, out, len);
+    let count = read_arguments(rt, numbers)?;
+    if count < numbers.len() {
+        return Err(no_number(rt, count + 1));
     }
     Ok(())
 }
 
-// Says the first len bytes to the command.
-pub fn say(rt: &impl Streams, out: &[u8], len: usize) {
-    let _ = write(&mut rt.errors(), out, len);
+// The number that an argument says: none, where there is no such argument.
+fn argument<T: TryFrom<i64>>(rt: &(impl Streams + Env), place: usize) -> Result<Option<T>, Stopped>
+where
+    T::Error: Drop,
+    ensures { IfErr result (λ why. why ≡ Stopped.NoNumber) }
+{
+    let mut word = [0u8; 32];
+    let number = match rt.arg(place, &mut word) {
+        Ok(len) => parse::number_as(&word[..len]),
+        Err(FillError::TooLong) => None,
+        Err(FillError::NotPresent) => return Ok(None),
+    };
+    match number {
+        Some(x) => Ok(Some(x)),
+        None => Err(no_number(rt, place)),
+    }
 }
 
 // Says the place of an argument that is no number.
-pub fn say_number(rt: &impl Streams, place: usize) {
-    say_count(rt, b"NUMBER ", place);
+fn no_number(rt: &impl Streams, place: usize) -> Stopped
+    ensures { result ≡ Stopped.NoNumber }
+{
+    say(rt, format_args!("NUMBER {place}"));
+    Stopped::NoNumber
 }
 
-// Says a word and a number.
-pub fn say_count(rt: &impl Streams, word: &[u8], n: usize) {
-    let mut to = rt.errors();
-    let _ = put(&mut to, word);
-    let _ = to.writeln(n);
+// Reads standard input until it ends or buf is full, and answers how many bytes there are. Where a read fails, it says
+// UNREAD: what came before is no input.
+pub fn read_input(rt: &impl Streams, buf: &mut [u8]) -> Result<usize, Stopped>
+    ensures len { IfOk result (λ len. IsPrefixLen len buf.new) }
+    ensures why { IfErr result (λ why. why ≡ Stopped.Unread) }
+{
+    let input = fill(&mut rt.input(), buf);
+    if input.is_err() {
+        say(rt, "UNREAD");
+    }
+    input
 }
 
-// Says two numbers, behind what was said before them on the line.
-pub fn say_pair(rt: &impl Streams, a: usize, b: usize) {
-    let _ = rt.errors().write_fmt(a);
-    say_count(rt, b" ", b);
+// Writes the first len bytes to standard output. Where not all are taken, it says LOST; but nothing where nobody reads them.
+pub fn send(rt: &impl Streams, out: &[u8], len: usize) -> Result<(), Stopped> {
+    match write(&mut rt.output(), out, len) {
+        Ok(()) => Ok(()),
+        Err(error) => Err(lose(rt, error.kind())),
+    }
+}
+
+// What an error of this kind means for the output: nobody reads it, or it is lost.
+fn lose(rt: &impl Streams, kind: ErrorKind) -> Stopped
+    ensures gone { kind ≡ ErrorKind.BrokenPipe → result ≡ Stopped.Gone }
+    ensures lost { kind ≢ ErrorKind.BrokenPipe → result ≡ Stopped.Lost }
+{
+    if kind == ErrorKind::BrokenPipe {
+        return Stopped::Gone;
+    }
+    say(rt, "LOST");
+    Stopped::Lost
+}
+
+// Writes the line of a refusal, the first len bytes, to standard output, and says it to the command too.
+pub fn refuse(rt: &impl Streams, out: &[u8], len: usize) -> Result<(), Stopped> {
+    send(rt, out, len)?;
+    say_bytes(rt, out, len);
+    Ok(())
+}
+
+// Says the first len bytes to the command.
+pub fn say_bytes(rt: &impl Streams, out: &[u8], len: usize) {
+    let _ = write(&mut rt.errors(), out, len);
+}
+
+// Says the number and the place of a limit that is broken.
+pub fn say_refusal(rt: &impl Streams, limit: Limit) {
+    let Refusal { number, place } = Refusal::from(limit);
+    say(rt, format_args!("REFUSED {number} {place}"));
+}
+
+// Says a line to the command.
+pub fn say<D: Display + Drop>(rt: &impl Streams, line: D) {
+    let _ = rt.errors().writeln(line);
 }
 
 // Writes the first len bytes. No text has more bytes than its buffer.
@@ -135,29 +195,23 @@ fn write<W: Write>(to: &mut W, out: &[u8], len: usize) -> io::Result<()> {
     Err(io::Error::from(ErrorKind::InvalidInput))
 }
 
-// Reads until the input ends, a read fails or buf is full. What is whole and leaves room has all of the input.
-fn fill<R: Read>(from: &mut R, buf: &mut [u8]) -> Input
-    ensures in_bounds { IsPrefixLen result.len buf.new }
-    ensures bytes { Consumes (R.remaining from.old) (R.remaining from.new) (take result.len buf.new) }
-    ensures end { IsTrue result.whole → result.len < length buf.new → IsAtEnd (R.remaining from.new) }
+// Reads until the input ends, a read fails or buf is full. Where it leaves room, it has all of the input.
+fn fill<R: Read>(from: &mut R, buf: &mut [u8]) -> Result<usize, Stopped>
+    ensures in_bounds { IfOk result (λ len. IsPrefixLen len buf.new) }
+    ensures bytes { MatchResult result (λ len. Consumes (R.remaining from.old) (R.remaining from.new) (take len buf.new))
+        (λ _. (len : ℕ) × IsPrefixLen len buf.new × Consumes (R.remaining from.old) (R.remaining from.new) (take len buf.new)) }
+    ensures end { IfOk result (λ len. len < length buf.new → IsAtEnd (R.remaining from.new)) }
+    ensures why { IfErr result (λ why. why ≡ Stopped.Unread) }
 {
     let mut done: usize = 0;
     while done < buf.len() {
         match from.read(&mut buf[done..]) {
             Ok(0) => break,
             Ok(more) => done += more,
-            Err(_) => {
-                return Input {
-                    len: done,
-                    whole: false,
-                };
-            }
+            Err(_) => return Err(Stopped::Unread),
         }
     }
-    Input {
-        len: done,
-        whole: true,
-    }
+    Ok(done)
 }
 
 // Writes all bytes. It ends at the first write that fails or takes nothing.

@@ -71,7 +71,7 @@ fn is_word(c: u8) -> bool
 fn number_of(word: &[u8]) -> Option<i32>
     ensures { result ≡ number_of word.now }
 {
-    i32::try_from(parse::number_in(word)?).ok()
+    parse::number_as(word)
 }
 
 // Puts a number at place n, where there is one.

@@ -1,7 +1,8 @@
 // Numbers in base ten, from text: what a person typed.
 #![tactic(auto)]
 
-ghost use Rattle.std.specs.Prelude.{◌≡◌};
+ghost use Rattle.std.specs.Prelude.{◌≡◌, ℤ, Result};
+ghost use Rattle.std.specs.Result.{result_ok};
 ghost use Rattle.parse.specs.Parse.{figures, number_in};
 
 // The number that a word says: figures, at most 16 behind zeros in front, with a minus sign before them or none.
@@ -12,6 +13,16 @@ pub fn number_in(word: &[u8]) -> Option<i64>
         Some(size) => figures(size, true),
         None => figures(word, false),
     }
+}
+
+// The number that a word says, where the type holds it.
+pub fn number_as<T: TryFrom<i64>>(word: &[u8]) -> Option<T>
+where
+    T::Error: Drop,
+    ensures none { number_in word.now ≡ None → result ≡ None }
+    ensures some { (z : ℤ) → number_in word.now ≡ Some z → (r : Result T T.Error) × T.TryFrom.try_from_gives z r × (result ≡ result_ok r) }
+{
+    T::try_from(number_in(word)?).ok()
 }
 
 // The number that figures say, with its sign. Rust's own `parse` also takes a plus sign and more than 16 figures.
