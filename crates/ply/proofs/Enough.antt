@@ -3,6 +3,7 @@
 --     face-enough   a face of three corners, each one of the vertices, is good
 --     same-corner   so is one that has a vertex three times
 -- Assumes nothing.
+use Rattle.std.specs.Prelude.{Some}
 use mathlib.Core.Bool.{true}
 use mathlib.Core.List.{List, ◌∷◌}
 use mathlib.Core.Path.{◌≡◌, refl}
@@ -10,11 +11,10 @@ use Prim.Native.Nat.{ℕ, ◌+◌, ◌≤◌}
 use borrow.Author.Tests.{le-leb, eq-eqb}
 use lib.ListN.{length, get_or, replicate}
 use Rattle.ply_header.specs.declared.Form.{Form}
-use Rattle.ply_header.specs.declared.Header.TheVariants.{Taken}
 use Rattle.ply_header.specs.Header.{header}
 use Rattle.ply.specs.Body.{face_place, taken, index_at, is_index, good_face}
 
-pub form-enough : (s : List ℕ) (f : Form) → header s ≡ Taken f → f.faces ≤ 4095 → face_place s f f.faces ≡ length s → taken s ≡ Taken f
+pub form-enough : (s : List ℕ) (f : Form) → header s ≡ Some f → f.faces ≤ 4095 → face_place s f f.faces ≡ length s → taken s ≡ Some f
 unfolding taken
 form-enough s f e few end = rw (e, le-leb f.faces 4095 few, eq-eqb _ _ end)
 

@@ -1,7 +1,7 @@
 -- Where faces lie, and the loop that walks over them.
 --     grows          a face begins behind those before it
 --     Walking, walk_more, walk_end   what the loop keeps
---     walk-cut, walk-over            a face that is not in the file, so that the file does not end behind its last
+--     walk-cut                       a face that is not in the file, so that the file does not end behind its last
 -- Assumes nothing.
 use mathlib.Core.Bool.{false}
 use mathlib.Core.List.{List}
@@ -42,9 +42,6 @@ module _ {s : List ℕ} {at faces p i : ℕ} (w : Walking s at faces p i) where
 
   pub walk-cut : i < faces → length s ≤ p → false ≡ eqb (face_from s at faces) (length s)
   walk-cut h l = beyond s at (suc i) faces h (omega (arith, onward))
-
-  pub walk-over : i < faces → length s < behind_face s p → false ≡ eqb (face_from s at faces) (length s)
-  walk-over h l = beyond s at (suc i) faces h (omega (arith, onward))
 
   pub walk_more : {q : ℕ} → i < faces → q ≡ behind_face s p → Walking s at faces q (i + 1)
   walk_more h e = rw (add-one i) (record { low = h; is = e ∙ onward })

@@ -4,11 +4,12 @@
 --     Sized, sized            its vertices and its faces end at its end
 --     vertex-in, face-in      each lies in it
 -- Assumes nothing.
+use Rattle.std.specs.Prelude.{Option, Some, None}
 use mathlib.Core.Bool.{Bool, true, false, cond, ◌&&◌}
 use mathlib.Core.List.{List}
 use mathlib.Core.Path.{◌≡◌, refl, sym, ap, ◌∙◌}
 use Prim.Native.Nat.{ℕ, suc, ◌+◌, ◌-◌, ◌*◌, ◌/◌, ◌<◌, ◌≤◌}
-use native.Mathlib.Nat.{le-div_iff_mul-le, div-lt_iff_lt-mul, mul-le-mul_left, mul-le-mul_right, suc-mul}
+use native.Mathlib.Nat.{div-lt_iff_lt-mul, mul-le-mul_left, mul-le-mul_right, suc-mul}
 use native.Mathlib.Omega.{arith}
 use borrow.Author.Tests.{le-leb, leb-true, eqb-true, ne_eqb}
 use lib.Dec.{leb}
@@ -16,8 +17,6 @@ use lib.ListN.{length}
 use Rattle.ply_header.specs.declared.Scalar.{Scalar}
 use Rattle.ply_header.specs.declared.Scalar.TheVariants.{Float, Double, Int}
 use Rattle.ply_header.specs.declared.Form.{Form}
-use Rattle.ply_header.specs.declared.Header.{Header}
-use Rattle.ply_header.specs.declared.Header.TheVariants.{Taken, Other}
 use Rattle.ply_header.specs.Header.{header}
 use Rattle.ply_header.specs.Inner.{roomy}
 use Rattle.ply_vertex.specs.Vertex.{width_of, size_of}
@@ -56,9 +55,6 @@ few {b} s f e l h k =
     let more : length s - f.body < f.vertices * b = (div-lt_iff_lt-mul {k = b} (omega arith)).0 k in
     body-short s f (omega (arith, vertex-place f f.vertices e))
 
-pub room : {x v b : ℕ} → 12 ≤ b → v ≤ x / b → v * b ≤ x
-room {b} l h = (le-div_iff_mul-le {k = b} (omega arith)).0 h
-
 pub body_is : {b : ℕ} (s : List ℕ) (f : Form) → b ≡ size_of f → f.body + f.vertices * b ≡ face_place s f 0
 body_is s f e = vertex-place f f.vertices e ∙ sym (first-face s f)
 
@@ -83,16 +79,16 @@ and-false : (b : Bool) → (b && false) ≡ false
 and-false true = refl
 and-false false = refl
 
-pub roomy-same : (s : List ℕ) (h : Header) → bodied s (roomy (length s) h) ≡ bodied s h
+pub roomy-same : (s : List ℕ) (h : Option Form) → bodied s (roomy (length s) h) ≡ bodied s h
 unfolding roomy
-roomy-same s Other = refl
-roomy-same s (Taken f) = go (body_fits s f) refl
+roomy-same s None = refl
+roomy-same s (Some f) = go (body_fits s f) refl
   where
-    by : (b : Bool) → body_fits s f ≡ false → bodied s (cond b (Taken f) Other) ≡ bodied s (Taken f)
+    by : (b : Bool) → body_fits s f ≡ false → bodied s (cond b (Some f) None) ≡ bodied s (Some f)
     by true e = refl
     by false e = rw (e, and-false (leb f.faces 4095))
 
-    go : (b : Bool) → body_fits s f ≡ b → bodied s (roomy (length s) (Taken f)) ≡ bodied s (Taken f)
+    go : (b : Bool) → body_fits s f ≡ b → bodied s (roomy (length s) (Some f)) ≡ bodied s (Some f)
     go true e = let few = counts s f (eqb-true _ _ e) in rw (le-leb f.vertices (length s) few.0, le-leb f.faces (length s) few.1)
     go false e = by (leb f.vertices (length s) && leb f.faces (length s)) e
 
@@ -101,20 +97,20 @@ pub record Sized (s : List ℕ) (f : Form) : Type 0 where
   pub faces : f.faces ≤ 4095
   pub end : face_place s f f.faces ≡ length s
 
-picked : (a b : Bool) (g f : Form) → cond (a && b) (Taken g) Other ≡ Taken f → (g ≡ f) × (a ≡ true) × (b ≡ true)
+picked : (a b : Bool) (g f : Form) → cond (a && b) (Some g) None ≡ Some f → (g ≡ f) × (a ≡ true) × (b ≡ true)
 picked true true g f e = (cc, refl, refl)
 picked true false g f e = let z : ◌≡◌ {A = ℕ} 0 1 = cc in absurd (omega arith)
 picked false b g f e = let z : ◌≡◌ {A = ℕ} 0 1 = cc in absurd (omega arith)
 
-pub sized : (s : List ℕ) (f : Form) → taken s ≡ Taken f → Sized s f
+pub sized : (s : List ℕ) (f : Form) → taken s ≡ Some f → Sized s f
 unfolding taken
 sized s f e = go (header s) e
   where
-    go : (h : Header) → bodied s h ≡ Taken f → Sized s f
-    go (Taken g) e =
+    go : (h : Option Form) → bodied s h ≡ Some f → Sized s f
+    go (Some g) e =
         let p = picked (leb g.faces 4095) (body_fits s g) g f e in
         rw (sym p.0) (record { faces = leb-true _ _ p.1; end = eqb-true _ _ p.2 })
-    go Other e = let z : ◌≡◌ {A = ℕ} 0 1 = cc in absurd (omega arith)
+    go None e = let z : ◌≡◌ {A = ℕ} 0 1 = cc in absurd (omega arith)
 
 module _ {s : List ℕ} {f : Form} (t : Sized s f) where
   pub vertices-in : vertex_place f f.vertices ≤ length s

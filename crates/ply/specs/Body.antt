@@ -1,13 +1,11 @@
 -- The body of a PLY file: its vertices, then its faces, and nothing behind. Definitions only. `s` is the whole file.
-use Rattle.std.specs.Prelude.{Bool, cond, ◌&&◌, List, [], ◌∷◌, ℕ, zero, suc, ◌+◌, ◌*◌, leb, eqb, ℤ, pos, nat_abs, length, get_or}
+use Rattle.std.specs.Prelude.{Bool, cond, ◌&&◌, List, [], ◌∷◌, Option, Some, None, ℕ, zero, suc, ◌+◌, ◌*◌, leb, eqb, ℤ, pos, nat_abs, length, get_or}
 use Rattle.std.specs.Int.Signed.{le_z, lt_z}
 use Rattle.bits.specs.Field.{twos_complement}
 use Rattle.refusal.specs.Questions.{Question, asks_of}
 use Rattle.rounding.specs.declared.Vertex.{Vertex}
 use Rattle.rounding.specs.Rounding.{rounded_of, millimetres}
 use Rattle.ply_header.specs.declared.Form.{Form}
-use Rattle.ply_header.specs.declared.Header.{Header}
-use Rattle.ply_header.specs.declared.Header.TheVariants.{Taken, Other}
 use Rattle.ply_header.specs.Header.{header}
 use Rattle.ply_vertex.specs.Vertex.{little_endian, size_of, vertex_at, placed}
 use Rattle.ply.specs.declared.Corner.{Corner}
@@ -36,12 +34,12 @@ abbrev pub body_fits : List ℕ → Form → Bool
 body_fits s f = eqb (face_place s f f.faces) (length s)
 
 -- A header, where the file has at most 4,095 faces and its body the right length; else another form.
-abbrev pub bodied : List ℕ → Header → Header
-bodied s (Taken f) = cond (leb f.faces 4095 && body_fits s f) (Taken f) Other
-bodied s Other = Other
+abbrev pub bodied : List ℕ → Option Form → Option Form
+bodied s (Some f) = cond (leb f.faces 4095 && body_fits s f) (Some f) None
+bodied s None = None
 
 -- What a file says whose header has the form, with at most 4,095 faces and a body of the right length.
-unfoldable pub taken : List ℕ → Header
+unfoldable pub taken : List ℕ → Option Form
 taken s = bodied s (header s)
 
 -- ---- limit 14

@@ -1,3 +1,4 @@
 pub mod Body
+pub mod Ply
 -- inner
 pub mod Inner

@@ -1,21 +1,14 @@
 -- `ply::body_fits`: the vertices have room, and the faces behind them end at the end.
-use Rattle.std.proofs.Common.{ℕ, eqb, length, ap, ◌∙◌, arith}
+use Rattle.std.proofs.Common.{ℕ, eqb, length, ap, ◌∙◌}
 use Rattle.ply.specs.Body.{face_from, face_place}
-use Rattle.ply.proofs.Taken.{before-body, few, room, vertex-place}
+use Rattle.ply.proofs.Taken.{before-body, few, vertex-place}
 use Rattle.ply.proofs.body_fits.Goals as goal
 
-pub returns-then-s-body : goal.returns-then-s-body
-returns-then-s-body c = before-body c.args.s.now c.args.f c.if-s-body.true
+pub returns-then-s-f : goal.returns-then-s-f
+returns-then-s-f c = before-body c.args.s.now c.args.f c.if-s-f.true
 
-pub returns-then-s-body-2 : goal.returns-then-s-body-2
-returns-then-s-body-2 c = few c.args.s.now c.args.f c.size-bytes.ensures.0 c.size-bytes.ensures.1 c.if-s-body.false c.if-s-body-2.true
-
--- the vertices have room
-pub overflow_mul-vertices : goal.overflow_mul-vertices
-overflow_mul-vertices c = omega (arith, room c.size-bytes.ensures.1 c.if-s-body-2.false)
-
-pub overflow_add-body : goal.overflow_add-body
-overflow_add-body c = omega (arith, room c.size-bytes.ensures.1 c.if-s-body-2.false)
+pub returns-then-s-f-2 : goal.returns-then-s-f-2
+returns-then-s-f-2 c = few c.args.s.now c.args.f c.size-bytes.ensures.0 c.size-bytes.ensures.1 c.if-s-f.false c.if-s-f-2.true
 
 pub returns : goal.returns
 unfolding face_place
