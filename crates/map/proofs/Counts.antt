@@ -1,9 +1,9 @@
 -- Counting by whole bytes.
---     count-more     the count of one number more
+--     count-more     the count of one number more; from-bit, bit-most   its bit
 --     count-byte     of the cells of one byte more
 --     ones-byte      byte q as a number
 --     ones-to        the same end, by another name
---     ones-join      bytes, and bytes behind them, as one number
+--     ones-join      bytes, and bytes behind them, as one number; ones-little   of as many bytes as are wanted
 --     count_most     no count is above the numbers counted
 --     count_same     two properties that agree have one count
 -- Assumes nothing.
@@ -18,6 +18,7 @@ use lib.Count.{ones, ones_in, ones_step, ones_cat}
 use lib.Dec.{eqb}
 use lib.ListN.{get_or}
 use lib.Pow.{shr-shr}
+use Rattle.std.specs.Int.{from_bool}
 use Rattle.map.specs.Map.{is_filled, bit, count_below}
 use Rattle.map.specs.Inner.{OnesOf}
 
@@ -28,6 +29,15 @@ count_none p = refl
 pub count-more : (p : ℕ → Bool) (n : ℕ) → count_below p (n + 1) ≡ count_below p n + bit (p n)
 unfolding count_below
 count-more p n = rw (add-one n)
+
+-- A truth as a bit, as the code has it.
+pub from-bit : (b : Bool) → from_bool b ≡ bit b
+from-bit true = refl
+from-bit false = refl
+
+pub bit-most : (b : Bool) → bit b ≤ 1
+bit-most true = omega arith
+bit-most false = omega arith
 
 pub count_most : (p : ℕ → Bool) (n : ℕ) → count_below p n ≤ n
 unfolding count_below
@@ -87,3 +97,14 @@ ones-to end e o = rw e at o
 
 pub ones-join : (k : ℕ) {s : List ℕ} {from mid to a b : ℕ} → a < 2 ^ k → OnesOf s from mid a → OnesOf s mid to b → OnesOf s from to (b * 2 ^ k + a)
 ones-join k {a = a} {b = b} small first second = record { counted = omega (arith, ones_cat k b a small) }
+
+-- The bytes from byte i + o on as one number, the first lowest.
+abbrev pub little : List ℕ → (i o bytes : ℕ) → ℕ
+little s i o zero = 0
+little s i o (suc k) = little s i (suc o) k * 2 ^ 8 + get_or s (i + o) 0
+
+pub ones-little : (s : List ℕ) → ((j : ℕ) → get_or s j 0 < 256) → (i o k : ℕ) → OnesOf s (i + o) (i + o + k) (little s i o k)
+ones-little s b i o zero = record { counted = rw add-zero (omega (arith, ones-zero)) }
+ones-little s b i o (suc k) =
+    let next : i + suc o ≡ i + o + 1 = omega arith in
+    ones-join 8 (b (i + o)) (ones-byte s (i + o) (refl, b (i + o))) (ones-to (i + o + suc k) (omega arith) (rw next at (ones-little s b i (suc o) k)))

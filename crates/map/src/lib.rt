@@ -22,27 +22,20 @@ pub fn is_filled(map: &[u8], n: usize) -> bool
     (byte >> (7 - n % 8)) % 2 == 1
 }
 
-// The first filled cell from `first` on and below `end`, or `end`. Bytes with no filled cell are passed over, the last of
-// them to its end too.
+// The first filled cell from `first` on and below `end`, or `end`. Bytes with no filled cell are passed over.
 pub fn next_filled(map: &[u8], first: usize, end: usize) -> usize
     requires { (first ≤ end) × (end ≤ 8 * length map.now) × (end ≤ 262144) }
     ensures { NextFilled map.now first end result }
 {
-    let mut n = first;
-    while n < end {
-        if map[n / 8] == 0 {
-            n = n / 8 * 8 + 8;
-        } else {
-            if is_filled(map, n) {
-                return n;
+    for byte in first / 8..(end + 7) / 8 {
+        if map[byte] != 0 {
+            let cells = map[byte] & (255u8 >> first.saturating_sub(byte * 8));
+            if cells != 0 {
+                return end.min(byte * 8 + cells.leading_zeros() as usize);
             }
-            n += 1;
         }
     }
-    if end < n {
-        return end;
-    }
-    n
+    end
 }
 
 // Fills cell n.
@@ -51,8 +44,7 @@ pub fn fill_cell(map: &mut [u8], n: usize)
     ensures { map.new ≡ with_filled map.old n }
 {
     let q = n / 8;
-    let byte = map[q];
-    map[q] = byte | (1u8 << (7 - n % 8));
+    map[q] |= 1u8 << (7 - n % 8);
 }
 
 // Empties every cell of the first len bytes.
@@ -60,11 +52,7 @@ pub fn clear(map: &mut [u8], len: usize)
     requires { len ≤ length map.old }
     ensures { map.new ≡ replicate len 0 ++ drop len map.old }
 {
-    let mut i = 0;
-    while i < len {
-        map[i] = 0;
-        i += 1;
-    }
+    map[..len].fill(0);
 }
 
 // How many of the first `cells` cells are filled: whole bytes at once, then the cells of the last byte.
@@ -74,12 +62,8 @@ pub fn count(map: &[u8], cells: usize) -> usize
 {
     let whole = cells / 8;
     let mut sum = count_bytes(map, whole);
-    let mut n = whole * 8;
-    while n < cells {
-        if is_filled(map, n) {
-            sum += 1;
-        }
-        n += 1;
+    for n in whole * 8..cells {
+        sum += usize::from(is_filled(map, n));
     }
     sum
 }
@@ -89,18 +73,16 @@ fn count_bytes(map: &[u8], len: usize) -> usize
     requires { (len ≤ length map.now) × (len * 8 < 2 ^ 64) }
     ensures { (result ≡ count_below (is_filled map.now) (len * 8)) × (result ≤ len * 8) }
 {
+    let words = len / 8;
     let mut sum: usize = 0;
-    let mut i = 0;
-    while i + 8 <= len {
-        let w = word(map, i);
+    for i in 0..words {
+        let w = word(map, i * 8);
         if w != 0 {
-            sum += u64::count_ones(w) as usize;
+            sum += w.count_ones() as usize;
         }
-        i += 8;
     }
-    while i < len {
-        sum += u8::count_ones(map[i]) as usize;
-        i += 1;
+    for k in words * 8..len {
+        sum += map[k].count_ones() as usize;
     }
     sum
 }
@@ -110,25 +92,14 @@ fn word(map: &[u8], i: usize) -> u64
     requires { i + 8 ≤ length map.now }
     ensures { OnesOf map.now i (i + 8) result }
 {
-    let a = pair(map, i);
-    let b = pair(map, i + 2);
-    let c = pair(map, i + 4);
-    let d = pair(map, i + 6);
-    ((d * 65536 + c) * 65536 + b) * 65536 + a
-}
-
-// Two bytes, in the same way.
-fn pair(map: &[u8], i: usize) -> u64
-    requires { i + 2 ≤ length map.now }
-    ensures { OnesOf map.now i (i + 2) result × (result < 65536) }
-{
-    byte(map, i + 1) * 256 + byte(map, i)
-}
-
-// Byte i, as a number to compute with.
-fn byte(map: &[u8], i: usize) -> u64
-    requires { i < length map.now }
-    ensures { (result ≡ get_or map.now i 0) × (result < 256) }
-{
-    map[i] as u64
+    u64::from_le_bytes([
+        map[i],
+        map[i + 1],
+        map[i + 2],
+        map[i + 3],
+        map[i + 4],
+        map[i + 5],
+        map[i + 6],
+        map[i + 7],
+    ])
 }

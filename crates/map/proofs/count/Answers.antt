@@ -1,14 +1,13 @@
 -- `map::count`: one cell more is counted as the bit that it is.
-use Rattle.std.proofs.Common.{sym, ap, ◌∙◌, arith}
+use Rattle.std.proofs.Common.{◌≡◌, ap, ◌∙◌, arith}
 use Rattle.map.specs.Map.{is_filled, bit}
-use Rattle.map.proofs.Counts.{count-more}
+use Rattle.map.proofs.Counts.{count-more, from-bit, bit-most}
 use Rattle.map.proofs.count.Goals as goal
-use Rattle.map.proofs.count.Goals.{then-is_filled, else-is_filled}
 
 pub loop-n-preserved : goal.loop-n-preserved
 loop-n-preserved c =
+    let cell = is_filled c.args.map.now c.loop-n.n in
+    let here : c.from-sum.result ≡ bit cell = c.from-sum.ensures ∙ from-bit c.is_filled.result ∙ ap bit c.is_filled.ensures in
     let more = count-more (is_filled c.args.map.now) c.loop-n.n in
-    elim c.if-is_filled.branch [
-      | then-is_filled w ↦ (omega arith, omega arith, omega (arith, ap bit (sym c.is_filled.ensures ∙ w.if-is_filled.true)))
-      | else-is_filled w ↦ (omega arith, omega arith, omega (arith, ap bit (sym c.is_filled.ensures ∙ w.if-is_filled.false)))
-    ]
+    let few = bit-most cell in
+    (omega arith, omega arith)

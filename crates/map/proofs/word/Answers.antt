@@ -1,12 +1,12 @@
--- `map::word`: the ones of four pairs of bytes, joined.
-use Rattle.std.proofs.Common.{◌+◌, arith}
-use Rattle.map.proofs.Counts.{ones-to, ones-join}
+-- `map::word`: the ones of eight bytes, joined.
+use Rattle.std.proofs.Common.{◌≡◌, add-zero, arith}
+use Rattle.map.proofs.Counts.{little, ones-little}
 use Rattle.map.proofs.word.Goals as goal
 
 pub returns : goal.returns
 returns c =
+    let s = c.args.map.now in
     let i = c.args.i in
-    let fourth = ones-to (i + 8) (omega arith) c.pair-d.ensures.0 in
-    let third = ones-to (i + 6) (omega arith) c.pair-c.ensures.0 in
-    let second = ones-to (i + 4) (omega arith) c.pair-b.ensures.0 in
-    ones-join 16 (omega arith) c.pair-a.ensures.0 (ones-join 16 (omega arith) second (ones-join 16 (omega arith) third fourth))
+    let all = ones-little s (λ j. omega (arith, c.type_inv.map j)) i 0 8 in
+    let same : little s i 0 8 ≡ c.from_le_bytes.result = rw add-zero (omega arith) in
+    rw add-zero at (rw same at all)
