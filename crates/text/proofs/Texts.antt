@@ -2,6 +2,7 @@
 --     length-spliced    the bytes stay as many
 --     spliced-none      no text
 --     spliced-byte      one byte
+--     spliced-part      a part that is written over
 --     spliced-more      one text behind another
 --     puts-more        the same, of what the code puts
 -- Assumes nothing.
@@ -12,6 +13,7 @@ use native.Mathlib.Nat.{add-zero}
 use native.Mathlib.Omega.{arith}
 use lib.ListN.{length, take, drop, set, length-append, length-drop, take-append-drop}
 use lib.Seq.{length-take-le, append_snoc, set_split, take_at, drop-append-add, drop-drop}
+use borrow.Rule.Slice.PartMut.{put_mid}
 use Rattle.text.specs.Text.{spliced}
 use Rattle.text.specs.Inner.{Puts}
 
@@ -34,6 +36,10 @@ module _ (s : List ℕ) (at : ℕ) where
   spliced-byte b h =
       let behind : suc at ≡ at + 1 = omega arith in
       set_split s at b h ∙ sym (append_snoc (take at s) b (drop (suc at) s)) ∙ ap (λ (k : ℕ). take at s ++ (b ∷ []) ++ drop k s) behind
+
+  pub spliced-part : (t : List ℕ) (k : ℕ) → k ≡ length t → put_mid at k s t ≡ spliced s at t
+  unfolding spliced
+  spliced-part t k e = rw e (ap (λ (r : List ℕ). take at s ++ (t ++ r)) (drop-drop (length t) at s) ∙ sym (append_assoc (take at s) t (drop (at + length t) s)))
 
   pub spliced-more : (t u : List ℕ) → at ≤ length s → spliced (spliced s at t) (at + length t) u ≡ spliced s at (t ++ u)
   unfolding spliced

@@ -2,11 +2,12 @@
 // base ten, words and bytes. Each function answers the place behind what it puts.
 #![tactic(auto)]
 
-ghost use Rattle.std.specs.Prelude.{[], ◌∷◌, ◌≡◌, ◌+◌, ◌*◌, ◌^◌, ◌<◌, ◌≤◌, pos, length, get_or};
-ghost use Rattle.integers.specs.Within.{Within};
+ghost use Rattle.std.specs.Prelude.{[], ◌∷◌, ◌≡◌, ◌+◌, ◌*◌, ◌<◌, ◌≤◌, length};
 ghost use Rattle.text.specs.Text.{decimal, signed_decimal, spaced};
 ghost use Rattle.text.specs.Inner.{Puts};
 ghost use Rattle.text.specs.Lines.{pair_line, filled_line, refused_line, free_line, blocked_line, place_line, first_most, line_most};
+
+use itoa::Buffer;
 
 // Puts "FILLED count OF cells" at the start.
 pub fn put_filled(out: &mut [u8], count: usize, cells: usize) -> usize
@@ -49,7 +50,7 @@ fn put_pair(out: &mut [u8], word: &[u8], a: usize, second: &[u8], b: usize) -> u
     let behind_a = put_number(out, first, a);
     let next = put_word(out, behind_a, second);
     let behind_b = put_number(out, next, b);
-    put_byte(out, behind_b, 10)
+    put_byte(out, behind_b, b'\n')
 }
 
 // Puts "i j k".
@@ -58,11 +59,11 @@ pub fn put_place(out: &mut [u8], at: usize, i: usize, j: usize, k: usize) -> usi
     ensures { Puts out.old at (place_line i j k) out.new result × (result ≤ length out.old) }
 {
     let behind_i = put_number(out, at, i);
-    let second = put_byte(out, behind_i, 32);
+    let second = put_byte(out, behind_i, b' ');
     let behind_j = put_number(out, second, j);
-    let third = put_byte(out, behind_j, 32);
+    let third = put_byte(out, behind_j, b' ');
     let behind_k = put_number(out, third, k);
-    put_byte(out, behind_k, 10)
+    put_byte(out, behind_k, b'\n')
 }
 
 // Puts numbers in base ten, each with a space behind it.
@@ -71,46 +72,29 @@ pub fn put_numbers(out: &mut [u8], at: usize, numbers: &[i32]) -> usize
     ensures { Puts out.old at (spaced numbers.now) out.new result × (result ≤ at + 12 * length numbers.now) }
 {
     let mut end = at;
-    let mut i = 0;
-    while i < numbers.len() {
-        let behind = put_signed(out, end, read(numbers, i));
-        end = put_byte(out, behind, 32);
-        i += 1;
+    for number in numbers {
+        let behind = put_signed(out, end, *number);
+        end = put_byte(out, behind, b' ');
     }
     end
 }
 
-// Number i, widened. A call keeps the cast out of the caller's proof.
-fn read(numbers: &[i32], i: usize) -> i64
-    requires { i < length numbers.now }
-    ensures { (result ≡ get_or numbers.now i (pos 0)) × Within (2 ^ 31) result }
-{
-    numbers[i] as i64
-}
-
 // Puts a number in base ten, with a minus sign where it is negative.
-fn put_signed(out: &mut [u8], at: usize, z: i64) -> usize
-    requires { Within (2 ^ 31) z × (at + 11 ≤ length out.old) }
+fn put_signed(out: &mut [u8], at: usize, z: i32) -> usize
+    requires { at + 11 ≤ length out.old }
     ensures { Puts out.old at (signed_decimal z) out.new result × (result ≤ at + 11) }
 {
-    let size = integers::to_index(integers::magnitude(z));
-    if z < 0 {
-        let first = put_byte(out, at, b'-');
-        return put_number(out, first, size);
-    }
-    put_number(out, at, size)
+    let mut figures = Buffer::new();
+    put_word(out, at, figures.format(z).as_bytes())
 }
 
-// Puts a number in base ten: the digits of its tenth, then its last digit.
+// Puts a number in base ten.
 pub fn put_number(out: &mut [u8], at: usize, n: usize) -> usize
     requires { at + length (decimal n) ≤ length out.old }
     ensures { Puts out.old at (decimal n) out.new result }
 {
-    if n < 10 {
-        return put_byte(out, at, 48 + n as u8);
-    }
-    let last = put_number(out, at, n / 10);
-    put_byte(out, last, 48 + (n % 10) as u8)
+    let mut figures = Buffer::new();
+    put_word(out, at, figures.format(n).as_bytes())
 }
 
 // Puts the bytes of a word.
@@ -118,12 +102,9 @@ pub fn put_word(out: &mut [u8], at: usize, word: &[u8]) -> usize
     requires { at + length word.now ≤ length out.old }
     ensures { Puts out.old at word.now out.new result }
 {
-    let mut i = 0;
-    while i < word.len() {
-        out[at + i] = word[i];
-        i += 1;
-    }
-    at + i
+    let behind = at + word.len();
+    out[at..behind].copy_from_slice(word);
+    behind
 }
 
 // Puts one byte.
