@@ -3,11 +3,10 @@
 --     next          so number k can be put
 --     row_done      all have been put: the bytes are those of the numbers
 --     header-narrow, record-narrow   no field is too wide for a pen
---     version1-writable              a writer can take the layout of version 1
 -- Assumes nothing.
 use mathlib.Core.Bool.{true}
 use mathlib.Core.List.{List, [], ◌∷◌}
-use mathlib.Core.Path.{◌≡◌, refl, sym, ap, ap₂, ◌∙◌, subst}
+use mathlib.Core.Path.{◌≡◌, sym, ap, ap₂, ◌∙◌, subst}
 use Prim.Native.Nat.{ℕ, zero, suc, ◌+◌, ◌*◌, ◌<◌, ◌≤◌}
 use native.Mathlib.Nat.{add-zero, add_assoc, zero-add}
 use native.Mathlib.Omega.{arith}
@@ -18,11 +17,9 @@ use lib.Seq.{take-length}
 use Rattle.bits.specs.declared.Pen.{Pen}
 use Rattle.bits.specs.Field.{bytes_of}
 use Rattle.layout.specs.declared.Layout.{Layout}
-use Rattle.layout.specs.Layout.{FieldForm, field, plain, version1, header_fields, record_fields}
-use Rattle.layout.specs.Taken.{UsableLayout}
-use Rattle.layout.proofs.Bounds.{version1-usable}
+use Rattle.layout.specs.Layout.{FieldForm, field, plain, header_fields, record_fields}
 use Rattle.layout_write.specs.Writing.{can_hold_all, join}
-use Rattle.layout_write.specs.Put.{total, WritableLayout, Puttable}
+use Rattle.layout_write.specs.Put.{total, Puttable}
 use Rattle.layout_write.proofs.Held.{held-length, held_at, span, spread}
 use Rattle.layout_write.proofs.Penned.{Penned, puttable, penned-all}
 
@@ -67,9 +64,9 @@ module _ (fs : List FieldForm) (ns : List ℤ) (len : ℕ) (narrow : Narrow fs) 
       ap₂ (join 0) all (sym (spread ns (length fs) (held-length fs ns held))) in
       penned-all (subst (λ (K : ℕ). Penned K (join 0 fs ns) s len p) bits (subst (λ (N : ℕ). Penned (bits_behind 0 (take (length fs) fs)) N s len p) number r)) bytes
 
-module _ (l : Layout) (u : UsableLayout l) where
+module _ (l : Layout) where
   coordinate : (1 ≤ l.coordinate) × (l.coordinate ≤ 25)
-  coordinate = (u.coordinate-some, u.coordinate-most)
+  coordinate = (l.coordinate_some, l.coordinate_most)
 
   six : (1 ≤ 6) × (6 ≤ 25)
   six = (lit≤ tt, lit≤ tt)
@@ -79,11 +76,8 @@ module _ (l : Layout) (u : UsableLayout l) where
 
   pub header-narrow : Narrow (header_fields l)
   header-narrow =
-      ((lit≤ tt, lit≤ tt), (six, (six, (six, ((u.edge-some, u.edge-most), (coordinate, (coordinate, (coordinate, (twelve, (twelve, tt))))))))))
+      ((lit≤ tt, lit≤ tt), (six, (six, (six, ((l.edge_some, l.edge_most), (coordinate, (coordinate, (coordinate, (twelve, (twelve, tt))))))))))
 
   pub record-narrow : Narrow (record_fields l)
   record-narrow =
       ((lit≤ tt, lit≤ tt), (coordinate, (coordinate, (coordinate, (coordinate, (coordinate, (coordinate, (coordinate, (coordinate, (coordinate, tt))))))))))
-
-pub version1-writable : WritableLayout version1
-version1-writable = record { usable = version1-usable; header = refl; stride = refl; coordinate = lit≤ tt }

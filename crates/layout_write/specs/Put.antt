@@ -1,23 +1,14 @@
 -- What the functions of the writer ask and answer. Definitions only; no public promise cites them.
-use Rattle.std.specs.Prelude.{true, List, [], ◌∷◌, ◌≡◌, ℕ, ◌+◌, ◌*◌, ◌<◌, ◌≤◌, ℤ, pos, length, get_or}
+use Rattle.std.specs.Prelude.{true, List, [], ◌∷◌, ◌≡◌, ℕ, ◌+◌, ◌<◌, ◌≤◌, ℤ, pos, length, get_or}
 use Rattle.bits.specs.declared.Pen.{Pen}
 use Rattle.bits.specs.Inner.{Room, Put}
-use Rattle.layout.specs.declared.Layout.{Layout}
-use Rattle.layout.specs.Layout.{FieldForm, header_fields, record_fields}
-use Rattle.layout.specs.Taken.{UsableLayout}
+use Rattle.layout.specs.Layout.{FieldForm}
 use Rattle.layout_write.specs.Writing.{can_hold, encoded}
 
 -- How many bits fields have together.
 abbrev pub total : List FieldForm → ℕ
 total [] = 0
 total (f ∷ fs) = f.bits + total fs
-
--- A layout that a writer can take: headers and records fill their bytes, and a coordinate's field can hold a kind.
-pub record WritableLayout (l : Layout) : Type 0 where
-  pub usable : UsableLayout l
-  pub header : total (header_fields l) ≡ l.header * 8
-  pub stride : total (record_fields l) ≡ l.stride * 8
-  pub coordinate : 3 ≤ l.coordinate
 
 -- Number i of a list can be put behind a pen, as the field f.
 pub record Puttable (s : List ℕ) (p : Pen) (f : FieldForm) (ns : List ℤ) (i : ℕ) : Type 0 where
