@@ -5,6 +5,8 @@
 --     header-passed                questions 1 to 6, of which 2, 3 and 6 as facts
 --     accepted                     what an accepted file is
 --     usable, map-most             its grid is usable, and its map has at most 32,768 bytes
+--     held, followed, sides        what the readers of a record ask, and what the number of the grid's cells asks
+--     check-err                    the limit of a file, handed on by a `?`
 -- Assumes nothing.
 use mathlib.Core.List.{List}
 use mathlib.Core.Path.{◌≡◌, refl, sym, ap, ◌∙◌}
@@ -17,7 +19,9 @@ use lib.IntN.{pos}
 use lib.ListN.{length}
 use lib.Signed.{◌<ℤ◌}
 use Rattle.integers.proofs.Omega.{lt-true}
-use Rattle.refusal.specs.Limit.{gives, refused}
+use Rattle.std.specs.Prelude.{Result, Ok, Err, IsErrAnd}
+use Rattle.refusal.specs.declared.Limit.{Limit}
+use Rattle.refusal.specs.Limit.{gives, refused, said_limit}
 use Rattle.refusal.specs.Questions.{of_each}
 use Rattle.refusal.specs.Inner.{passed, asked}
 use Rattle.refusal.proofs.Asking.{passed-head, and_then, both-passed, first-append, asked-first, refuses, passes, asked-refused, asked-given}
@@ -28,6 +32,8 @@ use Rattle.layout.specs.declared.Layout.{Layout}
 use Rattle.layout.specs.declared.Header.{Header}
 use Rattle.layout.specs.Layout.{version1, record_start}
 use Rattle.layout.proofs.Bounds.{grid-within, count-lt}
+use Rattle.frame.specs.declared.Frame.{Frame}
+use Rattle.frame.specs.Frame.{said_check}
 use Rattle.frame.specs.File.{header_of}
 use Rattle.frame.specs.Questions.{header_questions, file_questions, kind_question, checked, contents, reading}
 
@@ -116,3 +122,12 @@ module _ (s : List ℕ) {h : Header} (e : checked s ≡ gives h) where
 
   pub followed : (i : ℕ) → i + 1 < h.count → record_start version1 i + 32 ≤ length s
   followed = (accepted s h e).followed
+
+  -- what the number of the grid's cells asks
+  pub sides : (h.grid.nx ≤ 64) × (h.grid.ny ≤ 64) × (h.grid.nz ≤ 64)
+  sides = let g = (accepted s h e).grid.within in (g.x.most, g.y.most, g.z.most)
+
+-- ---- the limit of a file, handed on by a `?`
+pub check-err : (r : Result Frame Limit) (l : Limit) → IsErrAnd r (λ e. e ≡ l) → said_check r ≡ said_limit l
+check-err (Ok f) l h = absurd h
+check-err (Err e) l h = ap said_limit h

@@ -3,14 +3,14 @@
 --     adds-cells     the definition adds the cells
 --     only-cells     and no other bytes do
 -- Assumes nothing.
-use mathlib.Core.Bool.{Bool, true, false, cond, ◌&&◌, ◌||◌}
+use mathlib.Core.Bool.{Bool, false, ◌&&◌, ◌||◌}
 use mathlib.Core.List.{List, [], append-nil}
-use mathlib.Core.Path.{◌≡◌, refl, sym, ap, ◌∙◌, subst}
+use mathlib.Core.Path.{◌≡◌, sym, ap, ◌∙◌, subst}
 use Prim.Native.Nat.{ℕ, ◌*◌, ◌/◌, ◌%◌, ◌-◌, ◌^◌, ◌<◌, ◌≤◌}
 use native.Mathlib.Decide.{dec_lt}
 use native.Mathlib.Nat.{zero-div}
 use native.Mathlib.Omega.{arith}
-use borrow.Author.Tests.{ltb-true, lt-ltb, le-ltb}
+use borrow.Author.Tests.{lt-ltb, le-ltb}
 use lib.Dec.{ltb}
 use lib.ListN.{length, get_or-eq_default}
 use Rattle.map.specs.Map.{map_length, is_filled, map_of}
@@ -19,11 +19,7 @@ use Rattle.triangles.specs.Add.{Adds}
 use Rattle.steps.specs.Steps.{present, with_cells}
 
 pub present-most : (total first count : ℕ) → present total first count ≤ total - first
-present-most total first count = go (ltb count (total - first)) refl
-  where
-    go : (b : Bool) → ltb count (total - first) ≡ b → cond b count (total - first) ≤ total - first
-    go true e = omega (arith, ltb-true count (total - first) e)
-    go false e = omega arith
+present-most total first count = omega arith
 
 -- no cell behind the bytes is filled
 past_end : (a : List ℕ) (n : ℕ) → 8 * length a ≤ n → is_filled a n ≡ false

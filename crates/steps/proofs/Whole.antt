@@ -2,7 +2,7 @@
 --     in-steps     the bytes and the answer are those of one fill
 --     two-ranges   two ranges, one behind the other, have every record of both
 -- Assumes nothing.
-use mathlib.Core.Bool.{Bool, true, false, cond, ◌&&◌, ◌||◌, or_assoc, or-false, and-false, and-or_distrib_left, and-eq-true_iff}
+use mathlib.Core.Bool.{Bool, true, false, ◌&&◌, ◌||◌, or_assoc, or-false, and-false, and-or_distrib_left, and-eq-true_iff}
 use mathlib.Core.List.{List, [], ◌∷◌, ◌++◌}
 use mathlib.Core.Path.{◌≡◌, refl, sym, ap, subst, ◌∙◌}
 use Prim.Native.Nat.{ℕ, zero, suc, ◌+◌, ◌-◌, ◌<◌, ◌≤◌}
@@ -62,11 +62,7 @@ module _ {A : Type 0} (p : A → Bool) (f : ℕ → A) where
 -- ---- ranges that have every record fill what the file fills
 -- a record of the file and of a range is one of those that the range has
 present-has : (total first count i : ℕ) → i < total → first ≤ i → i < first + count → i - first < present total first count
-present-has total first count i t l h = go (ltb count (total - first))
-  where
-    go : (b : Bool) → i - first < cond b count (total - first)
-    go true = omega arith
-    go false = omega arith
+present-has total first count i t l h = omega arith
 
 module _ (s : List ℕ) (n : ℕ) where
   abbrev total : ℕ

@@ -7,8 +7,7 @@ use Rattle.refusal.specs.Limit.{gives, refused}
 use Rattle.refusal.specs.Questions.{answered, of_each}
 use Rattle.map.specs.Map.{is_filled, count_below}
 use Rattle.layout.specs.Values.{header_in, reserved_in, kind_in}
-use Rattle.steps.specs.declared.Step.TheVariants.{Done}
-use Rattle.steps.specs.Steps.{present, beginning, joining, ending, said_step}
+use Rattle.steps.specs.Steps.{present, beginning, joining, ending}
 
 abbrev g : List ℕ
 g = 0x10 ∷ 0x41 ∷ 0x04 ∷ 0x28 ∷ 0x00 ∷ 0x00 ∷ 0x00 ∷ 0x00 ∷ 0x00 ∷ 0x00 ∷ 0x10 ∷ 0x00 ∷ 0x00 ∷ 0x01 ∷ 0x00 ∷ 0x50 ∷ 0x00 ∷ 0x50 ∷ 0x05 ∷ 0x00 ∷ 0x14 ∷ 0x00 ∷ 0x14 ∷ 0x01 ∷ 0x40 ∷ 0x00 ∷ 0x40 ∷ 0x05 ∷ []
@@ -25,6 +24,3 @@ short-map = refl
 -- of ten records: all of a range, its part, none
 pub parts : (present 10 3 4 ∷ present 10 8 4 ∷ present 10 10 4 ∷ present 10 12 4 ∷ []) ≡ (4 ∷ 2 ∷ 0 ∷ 0 ∷ [])
 parts = refl
-
-pub said-step : said_step (Done 3) ≡ gives 3
-said-step = refl

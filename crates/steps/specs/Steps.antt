@@ -1,14 +1,12 @@
 -- What each step of a fill answers and leaves, whatever the map held; and a whole fill in steps. Definitions only.
-use Rattle.std.specs.Prelude.{Bool, cond, ◌&&◌, ◌||◌, List, [], ◌∷◌, ◌++◌, ℕ, ◌+◌, ◌-◌, ◌*◌, leb, ltb, length, drop, replicate}
-use Rattle.refusal.specs.Limit.{Answer, gives, said_limit, unless_refused}
+use Rattle.std.specs.Prelude.{Bool, ◌&&◌, ◌||◌, List, [], ◌∷◌, ◌++◌, ℕ, ◌+◌, ◌-◌, ◌*◌, min, leb, ltb, length, drop, replicate}
+use Rattle.refusal.specs.Limit.{Answer, unless_refused}
 use Rattle.refusal.specs.Questions.{answered}
 use Rattle.grid.specs.Grid.{cell_count}
 use Rattle.map.specs.Map.{map_length, is_filled, count_below, map_of}
 use Rattle.frame.specs.File.{header_of}
 use Rattle.fill.specs.Fill.{grid_of, any_of, fill_questions}
 use Rattle.fill.specs.Part.{filled_from}
-use Rattle.steps.specs.declared.Step.{Step}
-use Rattle.steps.specs.declared.Step.TheVariants.{Done, Refused}
 
 -- ---- begin
 -- It gives the number of records.
@@ -24,7 +22,7 @@ begun_bytes s m =
 -- ---- some records
 -- How many of `count` records from number `first` on there are, of `total`.
 abbrev pub present : (total first count : ℕ) → ℕ
-present total first count = cond (ltb count (total - first)) count (total - first)
+present total first count = min count (total - first)
 
 -- It gives the number of records that joined.
 unfoldable pub joining : (file map : List ℕ) → (first count : ℕ) → Answer ℕ
@@ -61,8 +59,3 @@ in_steps s m = stepped_bytes s (begun_bytes s m)
 -- Record i is in some range of the list.
 abbrev pub is_covered : List Range → ℕ → Bool
 is_covered rs i = any_of (λ r. leb r.first i && ltb i (r.first + r.count)) rs
-
--- ---- what each case of the code's enum says
-abbrev pub said_step : Step → Answer ℕ
-said_step (Done n) = gives n
-said_step (Refused l) = said_limit l
