@@ -47,9 +47,8 @@ pub struct BoxRange {
 pub fn lattice_of(g: Grid) -> Lattice
     ensures { result ≡ lattice_of g }
 {
-    let first = g.origin;
     Lattice {
-        first,
+        first: g.origin,
         step: g.edge,
         extent: g.edge,
     }
@@ -60,8 +59,7 @@ pub fn cell_count(g: Grid) -> usize
     requires { (g.nx ≤ 64) × (g.ny ≤ 64) × (g.nz ≤ 64) }
     ensures { (result ≡ cell_count g) × (result ≤ 262144) }
 {
-    let layer = g.nx * g.ny;
-    layer * g.nz
+    g.nx * g.ny * g.nz
 }
 
 // The number of cell (i, j, k) in a grid with nx × ny cells in a layer.
@@ -69,8 +67,7 @@ pub fn cell_number(nx: usize, ny: usize, i: usize, j: usize, k: usize) -> usize
     requires { (nx ≤ 64) × (ny ≤ 64) × (i < 64) × (j < 64) × (k < 64) }
     ensures { result ≡ cell_number nx ny i j k }
 {
-    let row = j + ny * k;
-    i + nx * row
+    i + nx * (j + ny * k)
 }
 
 // Is the point in the grid's closed box?
@@ -79,13 +76,9 @@ pub fn is_inside(g: Grid, p: Point) -> bool
     ensures { result ≡ inside g p }
 {
     let origin = g.origin;
-    if !inside_on(origin.x, g.nx, g.edge, p.x) {
-        return false;
-    }
-    if !inside_on(origin.y, g.ny, g.edge, p.y) {
-        return false;
-    }
-    inside_on(origin.z, g.nz, g.edge, p.z)
+    inside_on(origin.x, g.nx, g.edge, p.x)
+        && inside_on(origin.y, g.ny, g.edge, p.y)
+        && inside_on(origin.z, g.nz, g.edge, p.z)
 }
 
 // On an axis, is the coordinate from the grid's origin to its far end, both included?
@@ -93,11 +86,7 @@ fn inside_on(origin: i64, cells: usize, edge: i64, at: i64) -> bool
     requires { Within coordinate_max origin × (cells ≤ 64) × Within step_max edge }
     ensures { result ≡ inside_on origin (pos cells *ℤ edge) at }
 {
-    if at < origin {
-        return false;
-    }
-    let far = along(origin, cells, edge);
-    at <= far
+    origin <= at && at <= along(origin, cells, edge)
 }
 
 // On an axis, where cell i begins: origin + i × edge.
@@ -105,6 +94,5 @@ pub fn along(origin: i64, i: usize, edge: i64) -> i64
     requires { Within coordinate_max origin × (i ≤ 64) × Within step_max edge }
     ensures { result ≡ origin +ℤ pos i *ℤ edge }
 {
-    let offset = integers::from_index(i) * edge;
-    origin + offset
+    origin + i as i64 * edge
 }
