@@ -1,7 +1,6 @@
 -- What the functions compute with, how large their numbers may be, and what the least fraction means. Definitions only; no public promise cites them.
-use Rattle.std.specs.Prelude.{cond, List, [], ◌∷◌, ◌≡◌, ℕ, ◌+◌, ◌^◌, ℤ, pos, neg_ℤ, ◌+ℤ◌, ◌-ℤ◌, ◌*ℤ◌, ◌≤ℤ◌, ◌<ℤ◌}
+use Rattle.std.specs.Prelude.{cond, List, [], ◌∷◌, ◌≡◌, ℕ, ◌+◌, ℤ, pos, neg_ℤ, ◌+ℤ◌, ◌-ℤ◌, ◌*ℤ◌, ◌≤ℤ◌, ◌<ℤ◌}
 use Rattle.std.specs.Int.Signed.{lt_z}
-use Rattle.integers.specs.Within.{Within}
 use Rattle.geometry.specs.Bounds.{coordinate_max, step_max, extent_max}
 use Rattle.geometry.specs.declared.Point.{Point}
 use Rattle.geometry.specs.Geometry.{Axis, x_of, y_of, z_of}
@@ -10,6 +9,7 @@ use Rattle.reach.specs.Reaches.{LegReachesBox}
 use Rattle.entry.specs.declared.Fraction.{Fraction}
 use Rattle.entry.specs.declared.AxisEntry.{AxisEntry}
 use Rattle.entry.specs.declared.Entries.{Entries}
+use Rattle.entry.specs.Parts.{BoundedApproach}
 use Rattle.entry.specs.Entry.{over, later}
 
 -- ---- the entry fractions of a lattice's boxes
@@ -47,27 +47,10 @@ entry_at c i j k = later (row_entry c j k) (entry_by c.x i)
 abbrev pub entry_bounds : List ℕ
 entry_bounds = coordinate_max ∷ coordinate_max ∷ coordinate_max ∷ step_max ∷ extent_max ∷ []
 
--- The numbers of a fraction, and of how a leg comes to boxes.
-abbrev pub fraction_max : ℕ
-fraction_max = 2 ^ 21
-
-abbrev pub axis_entry_max : ℕ
-axis_entry_max = 2 ^ 20
-
-pub record BoundedFraction (f : Fraction) : Type 0 where
-  pub num : Within fraction_max f.num
-  pub den : Within fraction_max f.den
-
-pub record BoundedAxisEntry (c : AxisEntry) : Type 0 where
-  pub num : Within axis_entry_max c.num
-  pub slope : Within step_max c.slope
-  pub den : Within axis_entry_max c.den
-  pub positive : pos 0 <ℤ c.den
-
 pub record BoundedEntries (c : Entries) : Type 0 where
-  pub x : BoundedAxisEntry c.x
-  pub y : BoundedAxisEntry c.y
-  pub z : BoundedAxisEntry c.z
+  pub x : BoundedApproach c.x
+  pub y : BoundedApproach c.y
+  pub z : BoundedApproach c.z
 
 -- ---- the order of fractions, as a statement
 abbrev pub AtMost : (f g : Fraction) → Type 0

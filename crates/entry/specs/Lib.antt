@@ -1,3 +1,4 @@
 pub mod Entry
 -- inner
+pub mod Parts
 pub mod Inner

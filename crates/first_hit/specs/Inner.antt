@@ -1,14 +1,12 @@
 -- What the search for the cell reached first goes by, and what it has found. Definitions only; no public promise cites them.
-use Rattle.std.specs.Prelude.{Bool, true, cond, List, ◌≡◌, ℕ, ◌<◌, ◌≤◌, length}
+use Rattle.std.specs.Prelude.{Bool, true, cond, ◌≡◌, ℕ, ◌<◌, ◌≤◌}
 use Rattle.grid.specs.Cells.{x_of_cell, y_of_cell, z_of_cell, cell_number}
-use Rattle.grid.specs.Grid.{cell_count}
-use Rattle.grid.specs.Usable.{BoundedGrid}
-use Rattle.map.specs.Map.{map_length, is_filled}
-use Rattle.legs.specs.Slab.{row_holds, BoundedSlabs}
+use Rattle.map.specs.Map.{is_filled}
+use Rattle.legs.specs.Slab.{row_holds}
 use Rattle.entry.specs.declared.Fraction.{Fraction}
 use Rattle.entry.specs.Entry.{earlier}
-use Rattle.entry.specs.Inner.{entry_at, AtMost, BoundedEntries}
-use Rattle.touch.specs.Inner.{wanted, InGrid}
+use Rattle.entry.specs.Inner.{entry_at, AtMost}
+use Rattle.touch.specs.Inner.{wanted}
 use Rattle.first_hit.specs.declared.Best.{Best}
 use Rattle.first_hit.specs.declared.Traversal.{Traversal}
 
@@ -34,23 +32,15 @@ nearer_of best n f = cond (earlier f best.at) (record { cell = n; at = f }) best
 
 -- ---- a leg in a grid
 -- The cells looked for, and the fraction at which the leg enters each.
-abbrev pub sought : List ℕ → Traversal → ℕ → Bool
-sought s t = wanted (is_filled s) t.g t.slabs t.block
+abbrev pub sought : Traversal → ℕ → Bool
+sought t = wanted (is_filled t.map.now) t.g t.slabs t.block
 
 abbrev pub entered : Traversal → ℕ → Fraction
 entered t n = entry_at t.entries (x_of_cell t.g.nx n) (y_of_cell t.g.nx t.g.ny n) (z_of_cell t.g.nx t.g.ny n)
 
 -- `best` is the first of the cells before row j of layer k.
-abbrev pub FirstBefore : List ℕ → Traversal → (j k : ℕ) → Best → Type 0
-FirstBefore s t j k best = FirstBelow (sought s t) (entered t) (cell_number t.g.nx t.g.ny 0 j k) best
-
--- What the search asks: a usable grid, a map with room for it, and a leg's slabs, block and entries as they are computed.
-pub record ReadyTraversal (s : List ℕ) (t : Traversal) : Type 0 where
-  pub grid : BoundedGrid t.g
-  pub room : map_length (cell_count t.g) ≤ length s
-  pub slabs : BoundedSlabs t.slabs
-  pub block : InGrid t.g t.block
-  pub entries : BoundedEntries t.entries
+abbrev pub FirstBefore : Traversal → (j k : ℕ) → Best → Type 0
+FirstBefore t j k best = FirstBelow (sought t) (entered t) (cell_number t.g.nx t.g.ny 0 j k) best
 
 -- A layer of the block, and a row that lies in the slab in YZ.
 pub record LayerOf (t : Traversal) (k : ℕ) : Type 0 where

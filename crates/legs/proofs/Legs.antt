@@ -28,7 +28,7 @@ use Rattle.grid.specs.declared.BoxRange.{BoxRange}
 use Rattle.grid.specs.Range.{in_range}
 use Rattle.ranges.specs.Range.{PicksBox}
 use Rattle.integers.proofs.Truth.{same_truth}
-use Rattle.legs.specs.declared.Slab.{Slab}
+use Rattle.legs.specs.Form.{Form}
 use Rattle.legs.specs.Slab.{rising_slab, slab_of, slabs_of, form_of, slab_holds, row_holds, cell_holds}
 
 -- ---- an edge's value, with m = (ma, mb)
@@ -42,7 +42,7 @@ no_value va vb pa pb d p q =
 
 -- of the two others: the leg goes by (ea, eb) from (va, vb), and an edge starts there or at any other point of the leg's line
 module _ (ea eb va vb oa ob step d i j : ℤ) (down : eb ≤ℤ pos 0) (h : NN d) where
-  abbrev s : Slab
+  abbrev s : Form
   s = rising_slab ea eb (va -ℤ oa) (vb -ℤ ob) step d
 
   abbrev at : (ma mb wa wb : ℤ) → ℤ

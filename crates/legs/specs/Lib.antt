@@ -1,2 +1,3 @@
 -- inner
+pub mod Form
 pub mod Slab

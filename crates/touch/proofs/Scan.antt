@@ -7,6 +7,7 @@ use mathlib.Core.Bool.{Bool, true, false, ◌&&◌, and-eq-true_iff}
 use mathlib.Core.List.{List}
 use mathlib.Core.Logic.{◌⊎◌, inl, inr, ⊎_elim}
 use mathlib.Core.Path.{◌≡◌, sym, ap, ◌∙◌}
+use Rattle.std.specs.Prelude.{Some, None}
 use Prim.Native.Nat.{ℕ, suc, ◌+◌, ◌*◌, ◌<◌, ◌≤◌}
 use native.Mathlib.Decide.{dec_lt}
 use native.Mathlib.Nat.{mul-le-mul_left, mul-suc}
@@ -24,7 +25,6 @@ use Rattle.runs.specs.Run.{Narrows}
 use Rattle.runs.proofs.Narrow.{in-range, range-in}
 use Rattle.legs.specs.declared.Slabs.{Slabs}
 use Rattle.legs.specs.Slab.{row_holds, cell_holds}
-use Rattle.touch.specs.declared.Found.TheVariants.{Cell, Nothing}
 use Rattle.touch.specs.Inner.{in_block, wanted, Lowest, InGrid}
 
 -- ---- ranges
@@ -95,12 +95,12 @@ module _ (s : List ℕ) (g : Grid) (f : Slabs) (b : BoxRange) (in-grid : InGrid 
       none (is_filled s n) (in_block f b (x_of_cell g.nx n) (y_of_cell g.nx g.ny n) (z_of_cell g.nx g.ny n))
       (λ e t. let w = parts _ _ _ t in h w.0 w.1 w.2 (ap (is_filled s) (number-of g.nx g.ny n) ∙ e) w.3 w.4)
 
-  pub found_none : (k : ℕ) → b.z.end ≤ k → Layers s g.nx g.ny f b.x b.y b.z k → Lowest test (cell_count g) Nothing
+  pub found_none : (k : ℕ) → b.z.end ≤ k → Layers s g.nx g.ny f b.x b.y b.z k → Lowest test (cell_count g) None
   found_none k far layers n l = no_cell n (λ hx hy hz. layers (z_of_cell g.nx g.ny n) (omega arith) (x_of_cell g.nx n) (y_of_cell g.nx g.ny n) hx hy hz)
 
   pub found_at : (i j k : ℕ) → In b.x i → In b.y j → In b.z k → is_filled s (cell_number g.nx g.ny i j k) ≡ true
       → row_holds f k j ≡ true → cell_holds f i j k ≡ true → Layers s g.nx g.ny f b.x b.y b.z k → Rows s g.nx g.ny f b.x b.y b.z k j
-      → Cells s g.nx g.ny f b.x b.y b.z k j i → Lowest test (cell_count g) (Cell (cell_number g.nx g.ny i j k))
+      → Cells s g.nx g.ny f b.x b.y b.z k j i → Lowest test (cell_count g) (Some (cell_number g.nx g.ny i j k))
   found_at i j k hx hy hz filled row cell layers rows cells = (
     number_lt g.nx g.ny g.nz i j k li lj lk,
     rw (x-of g.nx g.ny i j k li, y_of g.nx g.ny i j k li lj, z-of g.nx g.ny i j k li lj, filled, range-in b.x i hx.0 hx.1, range-in b.y j hy.0 hy.1, range-in b.z k hz.0 hz.1, row, cell),

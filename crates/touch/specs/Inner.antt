@@ -1,5 +1,5 @@
 -- What the search of a block of cells asks and answers. Definitions only; no public promise cites them.
-use Rattle.std.specs.Prelude.{Bool, true, false, ◌&&◌, List, ◌≡◌, ℕ, ◌+◌, ◌<◌, ◌≤◌}
+use Rattle.std.specs.Prelude.{Bool, true, false, ◌&&◌, List, ◌≡◌, ℕ, ◌+◌, ◌<◌, ◌≤◌, Option, Some, None}
 use Rattle.grid.specs.declared.Grid.{Grid}
 use Rattle.grid.specs.declared.BoxRange.{BoxRange}
 use Rattle.grid.specs.Cells.{x_of_cell, y_of_cell, z_of_cell}
@@ -7,8 +7,6 @@ use Rattle.grid.specs.Range.{in_range}
 use Rattle.map.specs.Map.{is_filled}
 use Rattle.legs.specs.declared.Slabs.{Slabs}
 use Rattle.legs.specs.Slab.{row_holds, cell_holds}
-use Rattle.touch.specs.declared.Found.{Found}
-use Rattle.touch.specs.declared.Found.TheVariants.{Cell, Nothing}
 
 -- Cell (i, j, k) lies in the block and in the slabs; cell n is looked for: it is filled, and does.
 abbrev pub in_block : Slabs → BoxRange → (i j k : ℕ) → Bool
@@ -18,9 +16,9 @@ abbrev pub wanted : (filled : ℕ → Bool) → Grid → Slabs → BoxRange → 
 wanted filled g s b n = filled n && in_block s b (x_of_cell g.nx n) (y_of_cell g.nx g.ny n) (z_of_cell g.nx g.ny n)
 
 -- What is found is the lowest number below c with the property; or nothing, where there is none.
-abbrev pub Lowest : (ℕ → Bool) → ℕ → Found → Type 0
-Lowest p c (Cell n) = (n < c) × (p n ≡ true) × ((m : ℕ) → m < n → p m ≡ false)
-Lowest p c Nothing = (m : ℕ) → m < c → p m ≡ false
+abbrev pub Lowest : (ℕ → Bool) → ℕ → Option ℕ → Type 0
+Lowest p c (Some n) = (n < c) × (p n ≡ true) × ((m : ℕ) → m < n → p m ≡ false)
+Lowest p c None = (m : ℕ) → m < c → p m ≡ false
 
 -- A block of the grid's cells.
 pub record InGrid (g : Grid) (b : BoxRange) : Type 0 where

@@ -5,52 +5,38 @@ ghost use Rattle.std.specs.Prelude.{◌+◌, ◌*◌, ◌≤◌, length};
 ghost use Rattle.grid.specs.Grid.{cell_count};
 ghost use Rattle.grid.specs.Usable.{BoundedGrid};
 ghost use Rattle.map.specs.Map.{map_length, is_filled};
-ghost use Rattle.legs.specs.Slab.{BoundedSlabs};
 ghost use Rattle.touch.specs.Inner.{wanted, Lowest, InGrid, NextCell};
 
 use grid::{BoxRange, Grid};
 use legs::Slabs;
 
-// What a search answers: the number of a cell, or nothing.
-#[derive(Clone, Copy)]
-pub enum Found {
-    Cell(usize),
-    Nothing,
-}
-
 // The lowest filled cell of the block that lies in the leg's slabs: by layers, rows and cells. Of a layer's rows only
 // those in the slab in YZ are looked at; in a row, cells that are not filled are skipped before their slabs are asked.
-pub fn search(g: Grid, map: &[u8], slabs: Slabs, block: BoxRange) -> Found
-    requires { BoundedGrid g × (map_length (cell_count g) ≤ length map.now) × BoundedSlabs slabs × InGrid g block }
-    ensures { Lowest (wanted (is_filled map.now) g slabs block) (cell_count g) result }
+pub fn search(g: Grid, map: &[u8], slabs: &Slabs, block: BoxRange) -> Option<usize>
+    requires { BoundedGrid g × (map_length (cell_count g) ≤ length map.now) × InGrid g block }
+    ensures { Lowest (wanted (is_filled map.now) g slabs.now block) (cell_count g) result }
 {
     let x = block.x;
     let y = block.y;
     let z = block.z;
-    let nx = g.nx;
-    let ny = g.ny;
-    let mut found = Found::Nothing;
+    let mut found = None;
     let mut near = y.first;
-    let mut k = z.first;
-    // Left by its label at the first cell that is filled and touched: the lowest, as k, j and i rise.
-    'scan: while k < z.end {
-        let rows = legs::rows(slabs, y, near, k);
+    // Left by its label at the first cell that is filled and touched: the lowest, as k, j and i rise. (A rule of the project:
+    // docs/DECISIONS.md, forms.)
+    'scan: for k in z.first..z.end {
+        let rows = slabs.rows(y, near, k);
         near = rows.first;
-        let mut j = rows.first;
-        'rows: while j < rows.end {
-            let row = grid::cell_number(nx, ny, 0, j, k);
+        for j in rows.first..rows.end {
+            let row = grid::cell_number(g.nx, g.ny, 0, j, k);
             let mut i = next_cell(map, row, x.first, x.end);
-            // Cell i of the row is filled: next_cell skips the others. It is now tested for touch.
-            'cells: while i < x.end {
-                if legs::touches(slabs, i, j, k) {
-                    found = Found::Cell(row + i);
+            while i < x.end {
+                if slabs.touch(i, j, k) {
+                    found = Some(row + i);
                     break 'scan;
                 }
                 i = next_cell(map, row, i + 1, x.end);
             }
-            j += 1;
         }
-        k += 1;
     }
     found
 }

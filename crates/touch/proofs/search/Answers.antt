@@ -4,6 +4,7 @@ use mathlib.Core.Bool.{false}
 use mathlib.Core.List.{List}
 use mathlib.Core.Path.{◌≡◌, sym, ap, ◌∙◌, subst}
 use Prim.Native.Nat.{ℕ, ◌+◌}
+use Rattle.std.specs.Prelude.{Some}
 use native.Mathlib.Decide.{dec_lt}
 use native.Mathlib.Omega.{arith}
 use Rattle.integers.proofs.Truth.{apart}
@@ -12,7 +13,6 @@ use Rattle.grid.specs.Cells.{cell_number}
 use Rattle.grid.specs.declared.CellRange.{CellRange}
 use Rattle.map.specs.Map.{is_filled}
 use Rattle.legs.specs.declared.Slabs.{Slabs}
-use Rattle.touch.specs.declared.Found.TheVariants.{Cell}
 use Rattle.touch.specs.Inner.{wanted, Lowest}
 use Rattle.touch.proofs.Scan.{No, row_in, no_row, either, found_at}
 use Rattle.touch.proofs.search.Goals as goal
@@ -26,45 +26,44 @@ not-filled : (map : List ℕ) (nx ny : ℕ) (slabs : Slabs) (x y z : CellRange) 
     → No map nx ny slabs x y z i j k
 not-filled map nx ny slabs x y z row i j k is clear _ _ _ filled _ _ = apart (ap (is_filled map) (cell-is nx ny row i j k is) ∙ filled) clear
 
-pub cells-init : goal.cells-init
-cells-init c =
+pub loop-i-init : goal.loop-i-init
+loop-i-init c =
     let a = c.args in
     let b = a.block in
     let next = c.next_cell-i.ensures in (
-      c.rows.invariant.0,
+      c.loop-j.invariant.0,
       next.from,
       next.stopped,
       λ i l h.
-          not-filled a.map.now a.g.nx a.g.ny a.slabs b.x b.y b.z c.cell_number-row.result i c.rows.j c.scan.k c.cell_number-row.ensures
+          not-filled a.map.now a.g.nx a.g.ny a.slabs.now b.x b.y b.z c.cell_number-row.result i c.loop-j.j c.scan.k c.cell_number-row.ensures
           (next.skipped i l h.0) h,
     )
 
-pub cells-preserved : goal.cells-preserved
-cells-preserved c =
+pub loop-i-preserved : goal.loop-i-preserved
+loop-i-preserved c =
     let a = c.args in
     let b = a.block in
-    let v = c.cells.invariant in
-    let next = c.next_cell-i-in-cells.ensures in (
+    let v = c.loop-i.invariant in
+    let next = c.next_cell-i-in-loop-i.ensures in (
       v.0,
       omega (arith, next.from, v.1),
       next.stopped,
       λ i u hi hj hk filled row touched.
-          either (dec_lt i c.cells.i) (λ l. v.3 i l hi hj hk filled row touched)
+          either (dec_lt i c.loop-i.i) (λ l. v.3 i l hi hj hk filled row touched)
           (λ l.
-          either (dec_lt c.cells.i i)
+          either (dec_lt c.loop-i.i i)
           (λ w.
-          not-filled a.map.now a.g.nx a.g.ny a.slabs b.x b.y b.z c.cell_number-row.result i c.rows.j c.scan.k c.cell_number-row.ensures
+          not-filled a.map.now a.g.nx a.g.ny a.slabs.now b.x b.y b.z c.cell_number-row.result i c.loop-j.j c.scan.k c.cell_number-row.ensures
           (next.skipped i u (omega arith)) hi hj hk filled row touched)
           (λ w.
-          let same : i ≡ c.cells.i = omega arith in
-          apart (rw same at touched) (sym c.touches.ensures ∙ c.if-touches.false))),
+          let same : i ≡ c.loop-i.i = omega arith in
+          apart (rw same at touched) (sym c.touch.ensures ∙ c.if-touch.false))),
     )
 
-pub rows-preserved : goal.rows-preserved
-rows-preserved c = (
-  c.cells.invariant.0,
-  omega (arith, c.rows.invariant.1),
-  below_more _ _ c.rows.invariant.2 (λ i h. c.cells.invariant.3 i (omega (arith, h.1, c.cells-test.false)) h),
+pub loop-j-preserved : goal.loop-j-preserved
+loop-j-preserved c = (
+  c.loop-i.invariant.0,
+  below_more _ _ c.loop-j.invariant.1 (λ i h. c.loop-i.invariant.3 i (omega (arith, h.1, c.loop-i-test.false)) h),
 )
 
 pub scan-preserved : goal.scan-preserved
@@ -72,26 +71,26 @@ scan-preserved c =
     let a = c.args in
     let b = a.block in
     let n = c.rows-rows.ensures in (
-      c.rows.invariant.0,
-      omega arith,
-      below_more _ _ c.scan.invariant.2
+      c.loop-j.invariant.0,
+      below_more _ _ c.scan.invariant.1
           (λ i j hi hj.
-          either (dec_lt j c.rows.j) (λ v. c.rows.invariant.2 j v i hi hj)
-          (λ v. no_row a.map.now a.g.nx a.g.ny a.slabs b.x b.y b.z n j (λ h. omega (arith, h.1, c.rows-test.false)) i hi hj)),
+          either (dec_lt j c.loop-j.j) (λ v. c.loop-j.invariant.1 j v i hi hj)
+          (λ v. no_row a.map.now a.g.nx a.g.ny a.slabs.now b.x b.y b.z n j (λ h. omega (arith, h.1, c.loop-j-test.false)) i hi hj)),
       n.from,
       omega (arith, n.ordered, n.to),
     )
 
-pub returns-then-touches : goal.returns-then-touches
-returns-then-touches c =
+pub returns-then-touch : goal.returns-then-touch
+returns-then-touch c =
     let a = c.args in
-    let i = c.cells.i in
-    let at = cell-is a.g.nx a.g.ny c.cell_number-row.result i c.rows.j c.scan.k c.cell_number-row.ensures in
-    let j = row_in c.rows-rows.ensures c.rows.j (c.rows.invariant.1, c.rows-test.true) in
-    subst (λ (n : ℕ). Lowest (wanted (is_filled a.map.now) a.g a.slabs a.block) (cell_count a.g) (Cell n)) (sym at)
-    (found_at a.map.now a.g a.slabs a.block c.requires.3 i c.rows.j c.scan.k
-    (c.cells.invariant.1, c.cells-test.true) j.0 (c.scan.invariant.1, c.scan-test.true)
-    (ap (is_filled a.map.now) (sym at) ∙ c.cells.invariant.2 c.cells-test.true)
+    let i = c.loop-i.i in
+    let v = c.loop-i.invariant in
+    let at = cell-is a.g.nx a.g.ny c.cell_number-row.result i c.loop-j.j c.scan.k c.cell_number-row.ensures in
+    let j = row_in c.rows-rows.ensures c.loop-j.j (omega arith, c.loop-j-test.true) in
+    subst (λ (n : ℕ). Lowest (wanted (is_filled a.map.now) a.g a.slabs.now a.block) (cell_count a.g) (Some n)) (sym at)
+    (found_at a.map.now a.g a.slabs.now a.block c.requires.2 i c.loop-j.j c.scan.k
+    (v.1, c.loop-i-test.true) j.0 (omega arith, c.scan-test.true)
+    (ap (is_filled a.map.now) (sym at) ∙ v.2 c.loop-i-test.true)
     j.1
-    (sym c.touches.ensures ∙ c.if-touches.true)
-    c.scan.invariant.2 c.rows.invariant.2 c.cells.invariant.3)
+    (sym c.touch.ensures ∙ c.if-touch.true)
+    c.scan.invariant.1 c.loop-j.invariant.1 v.3)
