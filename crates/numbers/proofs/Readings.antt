@@ -16,7 +16,10 @@ use Rattle.layout.specs.Layout.{version1}
 use Rattle.layout.specs.Values.{from_record}
 use Rattle.layout.proofs.Bounds.{kind-lt, record-within}
 use Rattle.frame.specs.File.{record_of}
-use Rattle.frame.specs.Questions.{Contents, with_record, no_record, checked, reading}
+use Rattle.std.specs.Prelude.{Option, Some, None}
+use Rattle.layout.specs.declared.Record.{Record}
+use Rattle.frame.specs.declared.Reading.{Reading}
+use Rattle.frame.specs.Questions.{checked, reading}
 use Rattle.frame.proofs.Accepted.{AcceptedFile, accepted, reading-refused, reading-accepted}
 use Rattle.numbers.specs.Numbers.{header_numbers, record_numbers}
 use Rattle.numbers.specs.Inner.{Small}
@@ -50,18 +53,21 @@ record-small s i =
     & point-small (t.v1.x ∷ t.v1.y ∷ t.v1.z ∷ last) w.v0 (point-small last w.v1 (point-small [] w.v2 tt))
 
 -- The numbers of an answer are small, those of the header and those of the record.
-abbrev pub SmallReading : Answer Contents → Type 0
-SmallReading (gives (with_record h r)) = Small (header_numbers h) × Small (record_numbers r)
-SmallReading (gives (no_record h)) = Small (header_numbers h)
+abbrev pub SmallFound : Option Record → Type 0
+SmallFound (Some r) = Small (record_numbers r)
+SmallFound None = Unit {0}
+
+abbrev pub SmallReading : Answer Reading → Type 0
+SmallReading (gives c) = Small (header_numbers c.header) × SmallFound c.found
 SmallReading (refused n p) = Unit {0}
 
 pub small-reading : (s : List ℕ) (i : ℕ) → SmallReading (reading s i)
 small-reading s i = go (checked s) refl
   where
-    at : (b : Bool) (h : Header) → AcceptedFile s h → SmallReading (gives (cond b (with_record h (record_of s i)) (no_record h)))
-    at true h a = (accepted-small a, record-small s i)
-    at false h a = accepted-small a
+    at : (b : Bool) → SmallFound (cond b (Some (record_of s i)) None)
+    at true = record-small s i
+    at false = tt
 
     go : (c : Answer Header) → checked s ≡ c → SmallReading (reading s i)
     go (refused n p) e = subst SmallReading (sym (reading-refused s i e)) tt
-    go (gives h) e = subst SmallReading (sym (reading-accepted s i h e)) (at (ltb i h.count) h (accepted s h e))
+    go (gives h) e = subst SmallReading (sym (reading-accepted s i h e)) (accepted-small (accepted s h e), at (ltb i h.count))

@@ -1,10 +1,10 @@
 -- The numbers that a plain reading puts out, and how a caller takes them back. Definitions only.
-use Rattle.std.specs.Prelude.{cond, List, [], ◌∷◌, ◌++◌, ℕ, leb, eqb, ℤ, pos, length, drop}
+use Rattle.std.specs.Prelude.{Option, Some, None, cond, List, [], ◌∷◌, ◌++◌, ℕ, leb, eqb, ℤ, pos, length, drop}
 use Rattle.layout.specs.declared.Header.{Header}
 use Rattle.layout.specs.declared.Record.{Record}
 use Rattle.layout.specs.Values.{header_from, record_from}
 use Rattle.refusal.specs.Limit.{Answer, gives, refused}
-use Rattle.frame.specs.Questions.{Contents, with_record, no_record}
+use Rattle.frame.specs.declared.Reading.{Reading}
 
 -- The header's values: version, cells along x, y, z, cell edge, origin x, y, z, triangle count.
 abbrev pub header_numbers : Header → List ℤ
@@ -20,18 +20,24 @@ record_numbers r =
 
 -- What a reading puts out: the header's values and the record's, the header's alone where there is no such record, and
 -- nothing where the file is refused.
-abbrev pub contents_numbers : Contents → List ℤ
-contents_numbers (with_record h r) = header_numbers h ++ record_numbers r
-contents_numbers (no_record h) = header_numbers h
+abbrev pub found_numbers : Option Record → List ℤ
+found_numbers (Some r) = record_numbers r
+found_numbers None = []
 
-abbrev pub read_numbers : Answer Contents → List ℤ
+abbrev pub contents_numbers : Reading → List ℤ
+contents_numbers c = header_numbers c.header ++ found_numbers c.found
+
+abbrev pub read_numbers : Answer Reading → List ℤ
 read_numbers (gives c) = contents_numbers c
 read_numbers (refused n p) = []
 
 -- How many they are: 19, or 9.
-abbrev pub numbers_in : Contents → ℕ
-numbers_in (with_record h r) = 19
-numbers_in (no_record h) = 9
+abbrev pub numbers_with : Option Record → ℕ
+numbers_with (Some r) = 19
+numbers_with None = 9
+
+abbrev pub numbers_in : Reading → ℕ
+numbers_in c = numbers_with c.found
 
 -- A lent list after numbers were put out: they stand at its start and the rest is as it was; all of it is as it was where
 -- it has no room for them.
@@ -40,5 +46,5 @@ written ns out = cond (leb (length ns) (length out)) (ns ++ drop (length ns) out
 
 -- ---- back
 -- 19 numbers are a header's values and a record's; 9 are a header's.
-abbrev pub contents_from : (count : ℕ) → List ℤ → Contents
-contents_from n ns = cond (eqb n 19) (with_record (header_from ns) (record_from (drop 9 ns))) (no_record (header_from ns))
+abbrev pub contents_from : (count : ℕ) → List ℤ → Reading
+contents_from n ns = record { header = header_from ns; found = cond (eqb n 19) (Some (record_from (drop 9 ns))) None }

@@ -1,11 +1,11 @@
 // The numbers of a plain reading, as they are put out.
 #![tactic(auto)]
 
-ghost use Rattle.std.specs.Prelude.{◌++◌, ◌≡◌, ◌≤◌, ◌^◌, pos, length, drop};
-ghost use Rattle.integers.specs.Within.{Within};
+ghost use Rattle.std.specs.Prelude.{◌++◌, ◌≡◌, ◌≤◌, length, drop};
 ghost use Rattle.numbers.specs.Numbers.{header_numbers, record_numbers};
 ghost use Rattle.numbers.specs.Inner.{Small};
 
+use geometry::Triangle;
 use layout::{Header, Record};
 
 // The header's values, as they are put out.
@@ -16,15 +16,15 @@ pub fn header_numbers(header: Header) -> [i32; 9]
     let g = header.grid;
     let origin = g.origin;
     [
-        small(header.version as usize),
-        small(g.nx),
-        small(g.ny),
-        small(g.nz),
-        narrow(g.edge),
-        narrow(origin.x),
-        narrow(origin.y),
-        narrow(origin.z),
-        small(header.count),
+        header.version as i32,
+        g.nx as i32,
+        g.ny as i32,
+        g.nz as i32,
+        g.edge as i32,
+        origin.x as i32,
+        origin.y as i32,
+        origin.z as i32,
+        header.count as i32,
     ]
 }
 
@@ -33,21 +33,18 @@ pub fn record_numbers(rec: Record) -> [i32; 10]
     requires { Small (record_numbers rec) }
     ensures { result ≡ record_numbers rec }
 {
-    let t = rec.triangle;
-    let v0 = t.v0;
-    let v1 = t.v1;
-    let v2 = t.v2;
+    let Triangle { v0, v1, v2 } = rec.triangle;
     [
-        small(rec.kind as usize),
-        narrow(v0.x),
-        narrow(v0.y),
-        narrow(v0.z),
-        narrow(v1.x),
-        narrow(v1.y),
-        narrow(v1.z),
-        narrow(v2.x),
-        narrow(v2.y),
-        narrow(v2.z),
+        rec.kind as i32,
+        v0.x as i32,
+        v0.y as i32,
+        v0.z as i32,
+        v1.x as i32,
+        v1.y as i32,
+        v1.z as i32,
+        v2.x as i32,
+        v2.y as i32,
+        v2.z as i32,
     ]
 }
 
@@ -56,25 +53,5 @@ pub fn copy(numbers: &[i32], out: &mut [i32])
     requires { length numbers.now ≤ length out.old }
     ensures { out.new ≡ numbers.now ++ drop (length numbers.now) out.old }
 {
-    let mut i = 0;
-    while i < numbers.len() {
-        out[i] = numbers[i];
-        i += 1;
-    }
-}
-
-// A small natural number, as it is put out. A call keeps the cast out of the caller's proof.
-pub fn small(n: usize) -> i32
-    requires { Within (2 ^ 24) (pos n) }
-    ensures { result ≡ pos n }
-{
-    n as i32
-}
-
-// A small whole number, as it is put out.
-pub fn narrow(x: i64) -> i32
-    requires { Within (2 ^ 24) x }
-    ensures { result ≡ x }
-{
-    x as i32
+    out[..numbers.len()].copy_from_slice(numbers);
 }
