@@ -1,7 +1,6 @@
 -- Laws of `all_below`, and of lists of fields.
 --     all-at, all_of        what each number has, and back
 --     all_more, all-no      as a loop asks it
---     test-same             a test of numbers that are known by other names
 --     held_of               each field can hold its number, so all can
 --     header-held           the bounds of all fields say what the fields can hold
 -- Assumes nothing.
@@ -19,7 +18,7 @@ use Rattle.layout.specs.Layout.{FieldForm, field, plain}
 use Rattle.layout_write.specs.Writing.{between, can_hold, can_hold_all}
 use Rattle.layout_write.proofs.Held.{held_at}
 use Rattle.writable.specs.Fits.{all_below}
-use Rattle.writable.specs.Inner.{leasts, greatests, each_between}
+use Rattle.writable.specs.Inner.{bounds_of, bounds_at, each_between}
 
 module _ (p : ℕ → Bool) where
   pub all_more : (i : ℕ) → all_below p i ≡ true → p i ≡ true → all_below p (i + 1) ≡ true
@@ -47,10 +46,6 @@ module _ (p : ℕ → Bool) where
       go true h = absurd (true≢false (sym (all-at n h i l) ∙ e))
       go false h = refl
 
--- ---- tests of the same numbers
-pub test-same : {l l' h h' z z' : ℤ} → l ≡ l' → h ≡ h' → z ≡ z' → between l h z ≡ between l' h' z'
-test-same p q r = λ i. between (p i) (q i) (r i)
-
 -- ---- lists of fields
 abbrev pub none : FieldForm
 none = field plain 0
@@ -62,13 +57,13 @@ held_of [] (z ∷ zs) e f = absurd (omega arith)
 held_of (g ∷ fs) [] e f = absurd (omega arith)
 held_of (g ∷ fs) (z ∷ zs) e f = rw (f 0 (omega arith), held_of fs zs (omega arith) (λ k l. f (suc k) (omega arith))) refl
 
-bounds-at : (fs : List FieldForm) (i : ℕ) → i < length fs → (z : ℤ) → between (get_or (leasts fs) i (pos 0)) (get_or (greatests fs) i (pos 0)) z ≡ can_hold (get_or fs i none) z
-bounds-at [] i l z = absurd (omega arith)
-bounds-at (f ∷ fs) zero l z = refl
-bounds-at (f ∷ fs) (suc i) l z = bounds-at fs i (omega arith) z
+bounds-held : (fs : List FieldForm) (i : ℕ) → i < length fs → (z : ℤ) → between (bounds_at (bounds_of fs) i).low (bounds_at (bounds_of fs) i).high z ≡ can_hold (get_or fs i none) z
+bounds-held [] i l z = absurd (omega arith)
+bounds-held (f ∷ fs) zero l z = refl
+bounds-held (f ∷ fs) (suc i) l z = bounds-held fs i (omega arith) z
 
-pub header-held : (fs : List FieldForm) (zs : List ℤ) → length zs ≡ length fs → each_between (leasts fs) (greatests fs) zs ≡ can_hold_all fs zs
+pub header-held : (fs : List FieldForm) (zs : List ℤ) → length zs ≡ length fs → each_between (bounds_of fs) zs ≡ can_hold_all fs zs
 header-held fs zs e =
-    same_truth (each_between (leasts fs) (greatests fs) zs) (can_hold_all fs zs)
-    (λ h. held_of fs zs e (λ k l. sym (bounds-at fs k l (get_or zs k (pos 0))) ∙ all-at _ (length zs) h k (omega arith)))
-    (λ h. all_of _ (length zs) (λ i l. bounds-at fs i (omega arith) (get_or zs i (pos 0)) ∙ held_at fs zs h i (omega arith)))
+    same_truth (each_between (bounds_of fs) zs) (can_hold_all fs zs)
+    (λ h. held_of fs zs e (λ k l. sym (bounds-held fs k l (get_or zs k (pos 0))) ∙ all-at _ (length zs) h k (omega arith)))
+    (λ h. all_of _ (length zs) (λ i l. bounds-held fs i (omega arith) (get_or zs i (pos 0)) ∙ held_at fs zs h i (omega arith)))

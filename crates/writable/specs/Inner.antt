@@ -1,19 +1,24 @@
 -- What the tests ask and answer. Definitions only; no public promise cites them.
 use Rattle.std.specs.Prelude.{Bool, List, map, ℕ, ◌*◌, ℤ, pos, length, get_or}
-use Rattle.layout.specs.Layout.{FieldForm}
+use Rattle.layout.specs.Layout.{FieldForm, field, plain}
 use Rattle.layout_write.specs.Writing.{least, greatest, between}
+use Rattle.writable.specs.declared.Bounds.{Bounds}
 use Rattle.writable.specs.Fits.{all_below}
 
--- The least and the greatest number that each field can hold.
-abbrev pub leasts : List FieldForm → List ℤ
-leasts fs = map (λ f. least f.coding f.bits) fs
+-- The least and the greatest number that a field can hold; and each field.
+abbrev pub bounds_of_field : FieldForm → Bounds
+bounds_of_field f = record { low = least f.coding f.bits; high = greatest f.coding f.bits }
 
-abbrev pub greatests : List FieldForm → List ℤ
-greatests fs = map (λ f. greatest f.coding f.bits) fs
+abbrev pub bounds_of : List FieldForm → List Bounds
+bounds_of fs = map bounds_of_field fs
 
--- Each number of a list lies between its own two others; between the same two; and each tenth, from the first on, is a kind.
-abbrev pub each_between : (lows highs : List ℤ) → List ℤ → Bool
-each_between ls hs zs = all_below (λ i. between (get_or ls i (pos 0)) (get_or hs i (pos 0)) (get_or zs i (pos 0))) (length zs)
+-- Bounds number i; past the last the bounds are those of no bits.
+abbrev pub bounds_at : List Bounds → ℕ → Bounds
+bounds_at bs i = get_or bs i (bounds_of_field (field plain 0))
+
+-- Each number of a list lies within its own bounds; within the same; and each tenth, from the first on, is a kind.
+abbrev pub each_between : List Bounds → List ℤ → Bool
+each_between bs zs = all_below (λ i. between (bounds_at bs i).low (bounds_at bs i).high (get_or zs i (pos 0))) (length zs)
 
 abbrev pub all_between : (low high : ℤ) → List ℤ → Bool
 all_between low high zs = all_below (λ i. between low high (get_or zs i (pos 0))) (length zs)

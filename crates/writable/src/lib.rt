@@ -2,67 +2,75 @@
 #![tactic(auto)]
 
 ghost use Rattle.std.specs.Prelude.{true, ◌≡◌, ◌*◌, ◌≤◌, ◌^◌, pos, length};
-ghost use Rattle.layout.specs.Layout.{signed, header_fields};
+ghost use Rattle.layout.specs.Layout.{field, plain, signed, header_fields};
 ghost use Rattle.layout.specs.Values.{header_from};
-ghost use Rattle.layout_write.specs.Writing.{least, greatest, between, can_hold_all};
-ghost use Rattle.layout_write.specs.Put.{WritableLayout};
+ghost use Rattle.layout_write.specs.Writing.{between, can_hold_all};
 ghost use Rattle.writable.specs.Fits.{header_fits, all_below, triangle_fits, triangle_numbers};
-ghost use Rattle.writable.specs.Inner.{leasts, greatests, each_between, all_between, kinds_between};
+ghost use Rattle.writable.specs.Inner.{bounds_of_field, bounds_of, each_between, all_between, kinds_between};
 
 use geometry::Point;
 use grid::Grid;
-use layout::Layout;
+use layout_write::WritableLayout;
+
+// The least and the greatest number that a field can hold.
+#[derive(Clone, Copy)]
+pub struct Bounds {
+    pub low: i64,
+    pub high: i64,
+}
 
 // Can a header's fields hold its numbers, is the edge above 0, and does the grid end within the farthest coordinate?
-pub fn header_fits(layout: Layout, numbers: &[i32]) -> bool
-    requires { WritableLayout layout × (length numbers.now ≡ 10) }
-    ensures { result ≡ header_fits layout numbers.now }
+pub fn header_fits(layout: WritableLayout, numbers: &[i32]) -> bool
+    requires { length numbers.now ≡ 10 }
+    ensures { result ≡ header_fits layout.shape numbers.now }
 {
-    if !each_between(&lows(layout), &highs(layout), numbers) {
+    if !each_between(&header_bounds(layout), numbers) {
         return false;
     }
-    if integers::read_i32(numbers, 4) <= 0 {
+    if numbers[4] <= 0 {
         return false;
     }
-    frame::extent_fits(layout.farthest, grid_of(layout, numbers))
+    frame::extent_fits(layout.shape.farthest, grid_of(layout, numbers))
 }
 
 // The grid of a header's numbers.
-fn grid_of(layout: Layout, numbers: &[i32]) -> Grid
-    requires { WritableLayout layout × (can_hold_all (header_fields layout) numbers.now ≡ true) }
+fn grid_of(layout: WritableLayout, numbers: &[i32]) -> Grid
+    requires { can_hold_all (header_fields layout.shape) numbers.now ≡ true }
     ensures { result ≡ (header_from numbers.now).grid }
 {
     let origin = Point {
-        x: integers::read_i32(numbers, 5),
-        y: integers::read_i32(numbers, 6),
-        z: integers::read_i32(numbers, 7),
+        x: i64::from(numbers[5]),
+        y: i64::from(numbers[6]),
+        z: i64::from(numbers[7]),
     };
     Grid {
-        nx: integers::to_index(integers::read_i32(numbers, 1)),
-        ny: integers::to_index(integers::read_i32(numbers, 2)),
-        nz: integers::to_index(integers::read_i32(numbers, 3)),
-        edge: integers::read_i32(numbers, 4),
+        nx: numbers[1] as usize,
+        ny: numbers[2] as usize,
+        nz: numbers[3] as usize,
+        edge: i64::from(numbers[4]),
         origin,
     }
 }
 
-// The least number that each field of a header can hold.
-fn lows(layout: Layout) -> [i64; 10]
-    requires { WritableLayout layout }
-    ensures { result ≡ leasts (header_fields layout) }
+// What each field of a header can hold.
+fn header_bounds(layout: WritableLayout) -> [Bounds; 10]
+    ensures { result ≡ bounds_of (header_fields layout.shape) }
 {
-    let low = least_signed(layout.coordinate);
-    [0, 1, 1, 1, 0, low, low, low, 0, 0]
-}
-
-// The greatest.
-fn highs(layout: Layout) -> [i64; 10]
-    requires { WritableLayout layout }
-    ensures { result ≡ greatests (header_fields layout) }
-{
-    let high = greatest_signed(layout.coordinate);
-    let edge = power(layout.edge) - 1;
-    [15, 64, 64, 64, edge, high, high, high, 4095, 4095]
+    let cells = Bounds { low: 1, high: 64 };
+    let coordinate = signed_bounds(layout.shape.coordinate);
+    let twelve_bits = plain_bounds(12);
+    [
+        plain_bounds(4),
+        cells,
+        cells,
+        cells,
+        plain_bounds(layout.shape.edge),
+        coordinate,
+        coordinate,
+        coordinate,
+        twelve_bits,
+        twelve_bits,
+    ]
 }
 
 // 2 to the power of a field's width.
@@ -74,68 +82,65 @@ fn power(width: usize) -> i64
     word as i64
 }
 
-// The least number of a signed field, and the greatest.
-fn least_signed(width: usize) -> i64
-    requires { (1 ≤ width) × (width ≤ 25) }
-    ensures { result ≡ least signed width }
+// What a plain field of a width can hold.
+fn plain_bounds(width: usize) -> Bounds
+    requires { width ≤ 25 }
+    ensures { result ≡ bounds_of_field (field plain width) }
 {
-    -power(width - 1)
+    Bounds {
+        low: 0,
+        high: power(width) - 1,
+    }
 }
 
-fn greatest_signed(width: usize) -> i64
+// What a signed field of a width can hold.
+fn signed_bounds(width: usize) -> Bounds
     requires { (1 ≤ width) × (width ≤ 25) }
-    ensures { result ≡ greatest signed width }
+    ensures { result ≡ bounds_of_field (field signed width) }
 {
-    power(width - 1) - 1
+    let half = power(width - 1);
+    Bounds {
+        low: -half,
+        high: half - 1,
+    }
 }
 
-// Does each number lie between its own two others?
-fn each_between(lows: &[i64], highs: &[i64], numbers: &[i32]) -> bool
-    requires { (length lows.now ≡ length numbers.now) × (length highs.now ≡ length numbers.now) }
-    ensures { result ≡ each_between lows.now highs.now numbers.now }
+// Does each number lie within its own bounds?
+fn each_between(bounds: &[Bounds], numbers: &[i32]) -> bool
+    requires { length bounds.now ≡ length numbers.now }
+    ensures { result ≡ each_between bounds.now numbers.now }
 {
-    let mut i = 0;
-    while i < numbers.len() {
-        if !between(lows[i], highs[i], integers::read_i32(numbers, i)) {
+    for i in 0..numbers.len() {
+        if !between(bounds[i], i64::from(numbers[i])) {
             return false;
         }
-        i += 1;
     }
     true
 }
 
-// Is x one from `low` to `high`, both included?
-fn between(low: i64, high: i64, x: i64) -> bool
-    ensures { result ≡ between low high x }
+// Does x lie within bounds, both included?
+fn between(bounds: Bounds, x: i64) -> bool
+    ensures { result ≡ between bounds.low bounds.high x }
 {
-    if x < low {
-        return false;
-    }
-    x <= high
+    bounds.low <= x && x <= bounds.high
 }
 
 // Can records hold these triangles, and is each kind below 3? All numbers are put to the test that a coordinate is, which a
 // kind passes too, so that the test has one loop with no way out, which the compiler makes fast.
-pub fn triangles_fit(layout: Layout, triangles: &[i32], count: usize) -> bool
-    requires { WritableLayout layout × (length triangles.now ≡ count * 10) }
-    ensures { result ≡ all_below (λ i. triangle_fits layout (triangle_numbers triangles.now i)) count }
+pub fn triangles_fit(layout: WritableLayout, triangles: &[i32], count: usize) -> bool
+    requires { length triangles.now ≡ count * 10 }
+    ensures { result ≡ all_below (λ i. triangle_fits layout.shape (triangle_numbers triangles.now i)) count }
 {
-    let w = layout.coordinate;
-    if !all_between(least_signed(w), greatest_signed(w), triangles) {
-        return false;
-    }
-    kinds_fit(triangles, count)
+    all_between(signed_bounds(layout.shape.coordinate), triangles) && kinds_fit(triangles, count)
 }
 
-// Does every number lie between two others?
-fn all_between(low: i64, high: i64, numbers: &[i32]) -> bool
-    ensures { result ≡ all_between low high numbers.now }
+// Does every number lie within the bounds?
+fn all_between(bounds: Bounds, numbers: &[i32]) -> bool
+    ensures { result ≡ all_between bounds.low bounds.high numbers.now }
 {
     let mut good = true;
-    let mut i = 0;
-    while i < numbers.len() {
-        good = good & between(low, high, integers::read_i32(numbers, i));
-        i += 1;
+    for x in numbers {
+        good &= between(bounds, i64::from(*x));
     }
     good
 }
@@ -145,12 +150,11 @@ fn kinds_fit(triangles: &[i32], count: usize) -> bool
     requires { length triangles.now ≡ count * 10 }
     ensures { result ≡ kinds_between triangles.now count }
 {
-    let mut i = 0;
-    while i < count {
-        if !between(0, 2, integers::read_i32(triangles, i * 10)) {
+    let kinds = Bounds { low: 0, high: 2 };
+    for i in 0..count {
+        if !between(kinds, i64::from(triangles[i * 10])) {
             return false;
         }
-        i += 1;
     }
     true
 }

@@ -1,5 +1,5 @@
 -- `writable::kinds_fit`: each kind so far is 0, 1 or 2.
-use Rattle.std.proofs.Common.{◌≡◌, ◌≤◌, ◌-◌, ◌*◌, Bool, true, List, ℕ, ℤ, pos}
+use Rattle.std.proofs.Common.{◌≡◌, ◌*◌, Bool, true, List, ℕ, ℤ, pos}
 use lib.ListN.{get_or}
 use Rattle.layout_write.specs.Writing.{between}
 use Rattle.writable.specs.Fits.{all_below}
@@ -9,7 +9,4 @@ abbrev pub test : List ℤ → ℕ → Bool
 test zs i = between (pos 0) (pos 2) (get_or zs (i * 10) (pos 0))
 
 abbrev pub invariant-loop-i : goal.invariant-loop-i
-invariant-loop-i l = (l.i ≤ l.count) × (all_below (test l.triangles) l.i ≡ true)
-
-abbrev pub decreases-loop-i : goal.decreases-loop-i
-decreases-loop-i l = l.count - l.i
+invariant-loop-i l = all_below (test l.triangles) l.i ≡ true

@@ -1,20 +1,18 @@
 -- `writable::triangles_fit` meets its contract: the tests of the list say what the fields of each triangle do.
-use Rattle.std.proofs.Common.{refl, sym, ◌∙◌, w64}
-use Rattle.integers.proofs.Machine.{back}
+use Rattle.std.proofs.Common.{refl, sym, ap, ◌∙◌}
+use Rattle.writable.specs.declared.Bounds.{Bounds}
 use Rattle.writable.specs.Inner.{all_between}
 use Rattle.writable.proofs.Triangles.{triangles-same}
 use Rattle.writable.proofs.triangles_fit.Goals as goal
 
-pub returns-then-not-all_between : goal.returns-then-not-all_between
-returns-then-not-all_between c =
+pub returns-then-all_between : goal.returns-then-all_between
+returns-then-all_between c =
     let zs = c.args.triangles.now in
-    let tested = c.all_between.ensures
-    ∙ λ i. all_between ((back w64 c.least_signed.type_inv ∙ c.least_signed.ensures) i) ((back w64 c.greatest_signed.type_inv ∙ c.greatest_signed.ensures) i) zs in
-    sym (triangles-same c.args.layout c.requires.0.coordinate zs c.args.count c.requires.1 ∙ rw (sym tested ∙ c.if-not-all_between.true) refl)
+    let tested = c.all_between.ensures ∙ ap (λ (b : Bounds). all_between b.low b.high zs) c.signed_bounds.ensures in
+    c.kinds_fit.ensures ∙ sym (triangles-same c.args.layout.shape c.args.layout.kind_held zs c.args.count c.requires ∙ rw (sym tested ∙ c.if-all_between.true) refl)
 
-pub returns : goal.returns
-returns c =
+pub returns-else-all_between : goal.returns-else-all_between
+returns-else-all_between c =
     let zs = c.args.triangles.now in
-    let tested = c.all_between.ensures
-    ∙ λ i. all_between ((back w64 c.least_signed.type_inv ∙ c.least_signed.ensures) i) ((back w64 c.greatest_signed.type_inv ∙ c.greatest_signed.ensures) i) zs in
-    c.kinds_fit.ensures ∙ sym (triangles-same c.args.layout c.requires.0.coordinate zs c.args.count c.requires.1 ∙ rw (sym tested ∙ c.if-not-all_between.false) refl)
+    let tested = c.all_between.ensures ∙ ap (λ (b : Bounds). all_between b.low b.high zs) c.signed_bounds.ensures in
+    c.if-all_between.false ∙ sym (triangles-same c.args.layout.shape c.args.layout.kind_held zs c.args.count c.requires ∙ rw (sym tested ∙ c.if-all_between.false) refl)
