@@ -137,11 +137,13 @@ pub fn read_input(rt: &impl Streams, buf: &mut [u8]) -> Result<usize, Stopped>
     ensures len { IfOk result (λ len. IsPrefixLen len buf.new) }
     ensures why { IfErr result (λ why. why ≡ Stopped.Unread) }
 {
-    let input = fill(&mut rt.input(), buf);
-    if input.is_err() {
-        say(rt, "UNREAD");
+    match read_full(&mut rt.input(), buf) {
+        Ok(len) => Ok(len),
+        Err(_) => {
+            say(rt, "UNREAD");
+            Err(Stopped::Unread)
+        }
     }
-    input
 }
 
 // Writes the first len bytes to standard output. Where not all are taken, it says LOST; but nothing where nobody reads them.
@@ -187,7 +189,7 @@ pub fn say<D: Display + Drop>(rt: &impl Streams, line: D) {
     let _ = rt.errors().writeln(line);
 }
 
-// Writes the first len bytes. No text has more bytes than its buffer.
+// Writes the first len bytes. A length past the buffer is an error, and no demand on callers: their contracts bound none.
 fn write<W: Write>(to: &mut W, out: &[u8], len: usize) -> io::Result<()> {
     if len <= out.len() {
         return put(to, &out[..len]);
@@ -195,20 +197,20 @@ fn write<W: Write>(to: &mut W, out: &[u8], len: usize) -> io::Result<()> {
     Err(io::Error::from(ErrorKind::InvalidInput))
 }
 
-// Reads until the input ends, a read fails or buf is full. Where it leaves room, it has all of the input.
-fn fill<R: Read>(from: &mut R, buf: &mut [u8]) -> Result<usize, Stopped>
+// Reads until the input ends or buf is full, and answers how many bytes there are. Where it leaves room, it has all of the
+// input: a read that fails is no end.
+pub fn read_full<R: Read>(from: &mut R, buf: &mut [u8]) -> io::Result<usize>
     ensures in_bounds { IfOk result (λ len. IsPrefixLen len buf.new) }
     ensures bytes { MatchResult result (λ len. Consumes (R.remaining from.old) (R.remaining from.new) (take len buf.new))
         (λ _. (len : ℕ) × IsPrefixLen len buf.new × Consumes (R.remaining from.old) (R.remaining from.new) (take len buf.new)) }
     ensures end { IfOk result (λ len. len < length buf.new → IsAtEnd (R.remaining from.new)) }
-    ensures why { IfErr result (λ why. why ≡ Stopped.Unread) }
 {
     let mut done: usize = 0;
     while done < buf.len() {
         match from.read(&mut buf[done..]) {
             Ok(0) => break,
             Ok(more) => done += more,
-            Err(_) => return Err(Stopped::Unread),
+            Err(error) => return Err(error),
         }
     }
     Ok(done)
