@@ -9,6 +9,7 @@ use mathlib.Core.List.{List, [], ◌∷◌}
 use mathlib.Core.Path.{◌≡◌, sym, ap, ◌∙◌}
 use Prim.Native.Nat.{ℕ, ◌<◌, ◌≤◌}
 use borrow.Author.Tests.{lt-ltb, le-ltb, ltb-true}
+use Rattle.std.specs.Prelude.{Option}
 use Rattle.refusal.specs.Limit.{gives, refused}
 use Rattle.refusal.specs.Questions.{answered}
 use Rattle.refusal.specs.Inner.{asked}
@@ -19,18 +20,18 @@ use Rattle.layout.specs.declared.Header.{Header}
 use Rattle.frame.specs.File.{header_of, record_of}
 use Rattle.frame.specs.Questions.{file_questions, checked}
 use Rattle.frame.proofs.Accepted.{questions-refused, questions-passed, header_is}
-use Rattle.service.specs.Bar.{BehindCell, lowest, cell_question, behind}
+use Rattle.service.specs.Bar.{lowest, cell_question, behind}
 
 module _ (s : List ℕ) (n : ℕ) where
   -- the lowest record whose triangle overlaps the box of the cell
-  abbrev pub finding : BehindCell
+  abbrev pub finding : Option ℕ
   finding = let g = (header_of s).grid in lowest (λ i. overlaps_cell g (lattice_of g) (record_of s i).triangle n) (header_of s).count
 
   in-turn : behind s n ≡ and_then (asked (file_questions s)) (answered (cell_question (header_of s).grid n ∷ []) finding)
   unfolding behind
   in-turn = first-append finding (file_questions s) (cell_question (header_of s).grid n ∷ [])
 
-  pub behind-given : {b : BehindCell} → behind s n ≡ gives b → (checked s ≡ gives (header_of s)) × (n < cell_count (header_of s).grid)
+  pub behind-given : {b : Option ℕ} → behind s n ≡ gives b → (checked s ≡ gives (header_of s)) × (n < cell_count (header_of s).grid)
   unfolding checked
   behind-given e =
       let p = both-passed (asked (file_questions s)) (answered (cell_question (header_of s).grid n ∷ []) finding) (sym in-turn ∙ e) in

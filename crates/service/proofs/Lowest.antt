@@ -11,6 +11,7 @@ use Prim.Native.Nat.{ℕ, zero, suc, ◌<◌}
 use native.Mathlib.Nat.{not-suc-le-zero}
 use native.Mathlib.Decide.{dec_lt}
 use native.Mathlib.Omega.{arith}
+use Rattle.std.specs.Prelude.{Option, Some, None}
 use lib.Dec.{T}
 use lib.IntN.{ℤ, pos}
 use lib.Signed.{◌≤ℤ◌}
@@ -20,40 +21,40 @@ use Rattle.geometry.specs.Geometry.{cube}
 use Rattle.overlap.specs.Rule.{overlaps_box}
 use Rattle.reach.specs.Reaches.{ReachesBox}
 use Rattle.reach.proofs.Theorem.{cell-rule}
-use Rattle.service.specs.Bar.{BehindCell, clear, bar, lowest}
+use Rattle.service.specs.Bar.{lowest}
 
 module _ (has : ℕ → Bool) where
   -- the one found before is kept
-  kept : (n i : ℕ) → lowest has n ≡ bar i → lowest has (suc n) ≡ bar i
+  kept : (n i : ℕ) → lowest has n ≡ Some i → lowest has (suc n) ≡ Some i
   unfolding lowest
   kept n i h = rw h
 
-  pub lowest-clear : (n : ℕ) → ((i : ℕ) → i < n → has i ≡ false) → lowest has n ≡ clear
+  pub lowest-clear : (n : ℕ) → ((i : ℕ) → i < n → has i ≡ false) → lowest has n ≡ None
   unfolding lowest
   lowest-clear zero h = refl
   lowest-clear (suc n) h = rw (lowest-clear n (λ i l. h i (omega arith)), h n (omega arith))
 
-  found : (n : ℕ) → lowest has n ≡ clear → has n ≡ true → lowest has (suc n) ≡ bar n
+  found : (n : ℕ) → lowest has n ≡ None → has n ≡ true → lowest has (suc n) ≡ Some n
   unfolding lowest
   found n h e = rw (h, e)
 
-  pub lowest-at : (i n : ℕ) → i < n → lowest has i ≡ clear → has i ≡ true → lowest has n ≡ bar i
+  pub lowest-at : (i n : ℕ) → i < n → lowest has i ≡ None → has i ≡ true → lowest has n ≡ Some i
   lowest-at i zero l h e = absurd (not-suc-le-zero l)
   lowest-at i (suc n) l h e = go (dec_lt i n) (lowest-at i n)
     where
-      go : Dec (i < n) → (i < n → lowest has i ≡ clear → has i ≡ true → lowest has n ≡ bar i) → lowest has (suc n) ≡ bar i
+      go : Dec (i < n) → (i < n → lowest has i ≡ None → has i ≡ true → lowest has n ≡ Some i) → lowest has (suc n) ≡ Some i
       go (yes m) ih = kept n i (ih m h e)
       go (no m) ih = let same : n ≡ i = omega arith in rw same (found i h e)
 
-  pub lowest-below : (n i : ℕ) → lowest has n ≡ bar i → i < n
+  pub lowest-below : (n i : ℕ) → lowest has n ≡ Some i → i < n
   unfolding lowest
   lowest-below zero i h = let z : ◌≡◌ {A = ℕ} 0 1 = cc in absurd (omega arith)
   lowest-below (suc n) i h = go (lowest has n) (has n) (lowest-below n i) h
     where
-      go : (f : BehindCell) (b : Bool) → (f ≡ bar i → i < n) → elim f [ bar j ↦ bar j | clear ↦ cond b (bar n) clear ] ≡ bar i → i < suc n
-      go (bar j) b below e = let l = below e in omega arith
-      go clear true below e = let same : n ≡ i = cc in omega arith
-      go clear false below e = let z : ◌≡◌ {A = ℕ} 0 1 = cc in absurd (omega arith)
+      go : (f : Option ℕ) (b : Bool) → (f ≡ Some i → i < n) → elim f [ Some j ↦ Some j | None ↦ cond b (Some n) None ] ≡ Some i → i < suc n
+      go (Some j) b below e = let l = below e in omega arith
+      go None true below e = let same : n ≡ i = cc in omega arith
+      go None false below e = let z : ◌≡◌ {A = ℕ} 0 1 = cc in absurd (omega arith)
 
 -- ---- triangles and a box, by the overlap rule
 module _ {t : Triangle} {p : Point} {d : ℤ} (thick : pos 0 ≤ℤ d) where

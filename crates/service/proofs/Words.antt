@@ -4,9 +4,8 @@
 --     bar-lowest     the record is one of the file's, and no record before it reaches the cell
 --     clear_none     clear is said only where no record of the file reaches the cell
 --     cell-answered  of an accepted file no cell of the grid is refused
---     said           what the answer's cases say
 -- Assumes nothing.
-use mathlib.Core.List.{List, [], ◌∷◌}
+use mathlib.Core.List.{List}
 use mathlib.Core.Path.{◌≡◌, refl}
 use Prim.Native.Nat.{ℕ, ◌+◌, ◌<◌}
 use lib.IntN.{pos, nat_abs}
@@ -19,8 +18,8 @@ use Rattle.layout.specs.declared.Header.{Header}
 use Rattle.frame.specs.File.{header_of, record_of}
 use Rattle.frame.specs.Questions.{checked}
 use Rattle.weights.specs.declared.Weights.{Weights}
-use Rattle.service.specs.declared.BarAnswer.TheVariants.{Clear, Bar}
-use Rattle.service.specs.Bar.{clear, bar, behind, said_bar, Shown}
+use Rattle.std.specs.Prelude.{Some, None, Ok}
+use Rattle.service.specs.Bar.{behind, Shown}
 use Rattle.service.proofs.Answers.{finding, behind-found}
 
 module _ (s : List ℕ) (n : ℕ) where
@@ -30,7 +29,7 @@ module _ (s : List ℕ) (n : ℕ) where
   abbrev edge : Point
   edge = cube (header_of s).grid.edge
 
-  module _ {i : ℕ} {w : Weights} (b : Shown s n (Bar i w)) where
+  module _ {i : ℕ} {w : Weights} (b : Shown s n (Ok (Some (record { index = i; weights = w })))) where
     abbrev a0 : ℕ
     a0 = nat_abs w.w0
 
@@ -53,11 +52,8 @@ module _ (s : List ℕ) (n : ℕ) where
     pub bar-lowest : (i < (header_of s).count) × ((j : ℕ) → j < i → ReachesBox (record_of s j).triangle at edge → ⊥)
     bar-lowest = (b.known, b.none-lower)
 
-  pub clear_none : Shown s n Clear → (j : ℕ) → j < (header_of s).count → ReachesBox (record_of s j).triangle at edge → ⊥
+  pub clear_none : Shown s n (Ok None) → (j : ℕ) → j < (header_of s).count → ReachesBox (record_of s j).triangle at edge → ⊥
   clear_none none = none
 
   pub cell-answered : (h : Header) → checked s ≡ gives h → n < cell_count h.grid → behind s n ≡ gives (finding s n)
   cell-answered = behind-found s n
-
-pub said : (w : Weights) → (said_bar Clear ∷ said_bar (Bar 2 w) ∷ []) ≡ (gives clear ∷ gives (bar 2) ∷ [])
-said w = refl

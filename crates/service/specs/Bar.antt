@@ -1,5 +1,5 @@
 -- The bar behind a cell: the lowest triangle of a frame file that reaches a cell of its grid, or none. Definitions only.
-use Rattle.std.specs.Prelude.{Bool, cond, List, [], ◌∷◌, ◌++◌, ℕ, zero, suc, ◌<◌, ◌^◌, ltb}
+use Rattle.std.specs.Prelude.{Option, Some, None, Result, Ok, Err, IfOk, Bool, cond, List, [], ◌∷◌, ◌++◌, ℕ, zero, suc, ◌<◌, ◌^◌, ltb}
 use Rattle.geometry.specs.declared.Point.{Point}
 use Rattle.geometry.specs.Geometry.{cube}
 use Rattle.refusal.specs.Limit.{Answer, gives, said_limit}
@@ -12,20 +12,14 @@ use Rattle.frame.specs.File.{header_of, record_of}
 use Rattle.frame.specs.Questions.{file_questions}
 use Rattle.weights.specs.declared.Weights.{Weights}
 use Rattle.weights.specs.Weights.{Weighs}
-use Rattle.service.specs.declared.BarAnswer.{BarAnswer}
-use Rattle.service.specs.declared.BarAnswer.TheVariants as B
-use Rattle.service.specs.declared.BarAnswer.TheVariants.{Clear, Refused}
+use Rattle.refusal.specs.declared.Limit.{Limit}
+use Rattle.service.specs.declared.Bar.{Bar}
 
 -- ---- the lowest triangle
--- What is behind a cell: nothing, or a bar, the triangle of a record.
-pub data BehindCell : Type 0 where
-  clear : BehindCell
-  bar : (i : ℕ) → BehindCell
-
 -- Of n records, the lowest that has the property: the one found before, and else the last where it has it.
-unfoldable pub lowest : (ℕ → Bool) → ℕ → BehindCell
-lowest has zero = clear
-lowest has (suc n) = elim (lowest has n) [ bar i ↦ bar i | clear ↦ cond (has n) (bar n) clear ]
+unfoldable pub lowest : (ℕ → Bool) → ℕ → Option ℕ
+lowest has zero = None
+lowest has (suc n) = elim (lowest has n) [ Some i ↦ Some i | None ↦ cond (has n) (Some n) None ]
 
 -- ---- the answer
 -- Question 16: is the cell's number below the number of cells?
@@ -36,17 +30,17 @@ cell_question g n = 16 asks ltb n (cell_count g)
 abbrev pub bar_questions : List ℕ → ℕ → List Question
 bar_questions s n = file_questions s ++ (cell_question (header_of s).grid n ∷ [])
 
--- The call gives the lowest record whose triangle overlaps the cell's box, or clear. The boxes of the cells are the cells themselves.
-unfoldable pub behind : (file : List ℕ) (cell : ℕ) → Answer BehindCell
+-- The call gives the lowest record whose triangle overlaps the cell's box, a bar, or none: the cell is clear. The boxes of the cells are the cells themselves.
+unfoldable pub behind : (file : List ℕ) (cell : ℕ) → Answer (Option ℕ)
 behind s n =
     let g = (header_of s).grid in
     answered (bar_questions s n) (lowest (λ i. overlaps_cell g (lattice_of g) (record_of s i).triangle n) (header_of s).count)
 
--- What each case of the code's enum says. Of weights it says nothing: other weights would serve.
-abbrev pub said_bar : BarAnswer → Answer BehindCell
-said_bar Clear = gives clear
-said_bar (B.Bar i w) = gives (bar i)
-said_bar (Refused l) = said_limit l
+-- What the code's answer says. Of weights it says nothing: other weights would serve.
+abbrev pub said_bar : Result (Option Bar) Limit → Answer (Option ℕ)
+said_bar (Ok None) = gives None
+said_bar (Ok (Some b)) = gives (Some b.index)
+said_bar (Err l) = said_limit l
 
 -- ---- what it means, in the words of demand 3
 -- None of the triangles of the first n records reaches the box.
@@ -60,15 +54,14 @@ pub record ShowsBar (s : List ℕ) (count : ℕ) (p d : Point) (i : ℕ) (w : We
   pub shows : Weighs (2 ^ 30) (record_of s i).triangle p d w
   pub none-lower : NoneReaches s i p d
 
--- The claim, of an answer: clear is said only where no triangle reaches the box; a bar is the lowest that does.
-abbrev pub ShownAt : List ℕ → (count : ℕ) (p d : Point) → BarAnswer → Type 0
-ShownAt s count p d Clear = NoneReaches s count p d
-ShownAt s count p d (B.Bar i w) = ShowsBar s count p d i w
-ShownAt s count p d (Refused l) = Unit {0}
+-- The claim, of what is found: none is said only where no triangle reaches the box; a bar is the lowest that does.
+abbrev pub ShownAt : List ℕ → (count : ℕ) (p d : Point) → Option Bar → Type 0
+ShownAt s count p d None = NoneReaches s count p d
+ShownAt s count p d (Some b) = ShowsBar s count p d b.index b.weights
 
--- The same of all triangles of a file and the box of cell n.
-abbrev pub Shown : (file : List ℕ) (cell : ℕ) → BarAnswer → Type 0
-Shown s n =
+-- The same, of an answer that is not refused, of all triangles of a file and the box of cell n.
+abbrev pub Shown : (file : List ℕ) (cell : ℕ) → Result (Option Bar) Limit → Type 0
+Shown s n r =
     let g = (header_of s).grid in
     let l = lattice_of g in
-    ShownAt s (header_of s).count (box_of_cell g l n) (cube l.extent)
+    IfOk r (ShownAt s (header_of s).count (box_of_cell g l n) (cube l.extent))

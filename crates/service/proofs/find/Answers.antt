@@ -13,9 +13,9 @@ use Rattle.geometry.specs.declared.Triangle.{Triangle}
 use Rattle.geometry.specs.declared.Point.{Point}
 use Rattle.geometry.specs.Geometry.{cube}
 use Rattle.geometry.specs.Bounds.{TriangleWithin, BoundedTriangle}
-use Rattle.refusal.specs.Limit.{gives}
 use Rattle.reach.specs.Reaches.{ReachesBox}
 use Rattle.weights.specs.Weights.{Weighs}
+use Rattle.layout.specs.declared.Header.{Header}
 use Rattle.layout.specs.declared.Record.{Record}
 use Rattle.frame.specs.File.{record_of}
 use Rattle.frame.proofs.Triangles.{triangle-bounded, triangle-within}
@@ -47,37 +47,40 @@ pub weigh-requires : goal.weigh-requires
 weigh-requires c =
     let a = c.args in
     let p = c.requires in
-    let file = a.file.now in
-    let i = c.loop-i.i in
+    let file = a.frame.now.file.now in
+    let i = c.loop-index.index in
     let t = triangle-is file i c.one_record.ensures in (
       subst BoundedTriangle (sym t) (triangle-bounded file i),
-      p.1,
-      rw (extent-is c.ranges.extent) p.2,
+      p.0,
+      rw (extent-is c.ranges.extent) p.1,
       subst (λ (t : Triangle). ReachesBox t a.p (cube (to_z w64 (of_z w64 a.extent)))) (sym t)
-          (overlap-reaches (thick c.ranges.extent p.3) (sym c.overlaps.ensures ∙ c.if-overlaps.true)),
+          (overlap-reaches (thick c.ranges.extent p.2) (sym c.overlaps.ensures ∙ c.if-overlaps.true)),
     )
 
 pub returns-then-overlaps : goal.returns-then-overlaps
 returns-then-overlaps c =
+    let end = ap (λ (h : Header). h.count) c.header-index-end.ensures in
+    let known : c.loop-index.index < c.args.frame.now.header.count = omega (arith, c.loop-index-test.true, end) in
     let a = c.args in
-    let file = a.file.now in
-    let i = c.loop-i.i in
-    let none = c.loop-i.invariant.1 in
+    let file = a.frame.now.file.now in
+    let i = c.loop-index.index in
+    let none = c.loop-index.invariant in
     let t = triangle-is file i c.one_record.ensures in
     let few = c.weigh.ensures 13 (subst (TriangleWithin (2 ^ 13)) (sym t) (triangle-within file i)) in
     rw (← extent-is c.ranges.extent) (
-      ap gives (sym (lowest-at _ i a.count (omega arith) (lowest-clear _ i none) (sym c.overlaps.ensures ∙ c.if-overlaps.true))),
+      sym (lowest-at _ i a.frame.now.header.count known (lowest-clear _ i none) (sym c.overlaps.ensures ∙ c.if-overlaps.true)),
       record {
-        known = omega arith;
+        known = known;
         shows = subst (λ (t : Triangle). Weighs (2 ^ 30) t a.p (cube (to_z w64 (of_z w64 a.extent))) c.weigh.result) t few;
-        none-lower = none-reaches file a.p i (thick c.ranges.extent c.requires.3) none;
+        none-lower = none-reaches file a.p i (thick c.ranges.extent c.requires.2) none;
       },
     )
 
 pub returns : goal.returns
 returns c =
     let a = c.args in
-    let file = a.file.now in
-    let all : c.loop-i.i ≡ a.count = omega arith in
-    let none = subst (None file a.p (cube (to_z w64 (of_z w64 a.extent)))) all c.loop-i.invariant.1 in
-    rw (← extent-is c.ranges.extent) (ap gives (sym (lowest-clear _ _ none)), none-reaches file a.p _ (thick c.ranges.extent c.requires.3) none)
+    let file = a.frame.now.file.now in
+    let end = ap (λ (h : Header). h.count) c.header-index-end.ensures in
+    let all : c.loop-index.index ≡ a.frame.now.header.count = omega (arith, c.loop-index-test.false, c.loop-index.auto.index-end, end) in
+    let none = subst (None file a.p (cube (to_z w64 (of_z w64 a.extent)))) all c.loop-index.invariant in
+    rw (← extent-is c.ranges.extent) (sym (lowest-clear _ _ none), none-reaches file a.p _ (thick c.ranges.extent c.requires.2) none)

@@ -2,7 +2,6 @@
 use mathlib.Core.List.{List}
 use mathlib.Core.Path.{◌≡◌, sym, ap, subst, subst₂}
 use Prim.Native.Nat.{ℕ}
-use native.Mathlib.Omega.{arith}
 use lib.IntN.{ℤ}
 use mir.Syntax.{w64}
 use mir.Val.{SFits, to_z, of_z}
@@ -14,7 +13,7 @@ use Rattle.geometry.specs.Bounds.{BoundedTriangle}
 use Rattle.layout.specs.declared.Record.{Record}
 use Rattle.frame.specs.File.{record_of}
 use Rattle.frame.proofs.Triangles.{triangle-bounded}
-use Rattle.service.specs.declared.Near.{Near}
+use Rattle.std.specs.Prelude.{Option}
 use Rattle.service.specs.Inner.{ByBox}
 use Rattle.service.proofs.near_record.Goals as goal
 
@@ -26,32 +25,26 @@ module _ (s : List ℕ) (i : ℕ) {r : Record} (is : r ≡ record_of s i) where
   bounded : BoundedTriangle r.triangle
   bounded = subst BoundedTriangle (sym triangle-is) (triangle-bounded s i)
 
-  told : (p : Point) {extent : ℤ} → SFits w64 extent → (n : Near) → ByBox r.triangle p (cube (to_z w64 (of_z w64 extent))) n
+  told : (p : Point) {extent : ℤ} → SFits w64 extent → (n : Option Triangle) → ByBox r.triangle p (cube (to_z w64 (of_z w64 extent))) n
       → ByBox (record_of s i).triangle p (cube extent) n
   told p f n h = subst₂ (λ (t : Triangle) (d : ℤ). ByBox t p (cube d) n) triangle-is (to_z-of_z {w = w64} f) h
-
-pub record_inside-requires : goal.record_inside-requires
-record_inside-requires c = let p = c.requires in p.0.followed c.args.i (omega (arith, p.1, c.if-i-count.true))
 
 pub by_box-requires : goal.by_box-requires
 by_box-requires c =
     let p = c.requires in
-    (bounded c.args.file.now c.args.i c.record_inside.ensures, p.2, rw (to_z-of_z {w = w64} c.ranges.extent) p.3)
+    (bounded c.args.frame.now.file.now c.args.i c.record_inside.ensures, p.1, rw (to_z-of_z {w = w64} c.ranges.extent) p.2)
 
-pub returns-then-i-count : goal.returns-then-i-count
-returns-then-i-count c =
+pub returns-then-i-header : goal.returns-then-i-header
+returns-then-i-header c =
     let a = c.args in
-    told a.file.now a.i c.record_inside.ensures a.p c.ranges.extent c.by_box.result c.by_box.ensures
-
-pub one_record-requires : goal.one_record-requires
-one_record-requires c = let p = c.requires in p.0.each c.args.i p.1
+    told a.frame.now.file.now a.i c.record_inside.ensures a.p c.ranges.extent c.by_box.result c.by_box.ensures
 
 pub by_box-requires-2 : goal.by_box-requires-2
 by_box-requires-2 c =
     let p = c.requires in
-    (bounded c.args.file.now c.args.i c.one_record.ensures, p.2, rw (to_z-of_z {w = w64} c.ranges.extent) p.3)
+    (bounded c.args.frame.now.file.now c.args.i c.one_record.ensures, p.1, rw (to_z-of_z {w = w64} c.ranges.extent) p.2)
 
 pub returns : goal.returns
 returns c =
     let a = c.args in
-    told a.file.now a.i c.one_record.ensures a.p c.ranges.extent c.by_box-2.result c.by_box-2.ensures
+    told a.frame.now.file.now a.i c.one_record.ensures a.p c.ranges.extent c.by_box-2.result c.by_box-2.ensures
