@@ -15,17 +15,17 @@ use Rattle.frame.specs.File.{header_of, record_of}
 use Rattle.fill.specs.Fill.{any_of, obstacles, filled_in, filling, filled_bytes}
 use Rattle.fill.proofs.Triangles.{any_append}
 use Rattle.fill.proofs.Words.{rule-filled}
-use Rattle.service.specs.Bar.{BehindCell, clear, bar, lowest, bar_questions, behind}
+use Rattle.std.specs.Prelude.{Option, Some, None, is_some}
+use Rattle.service.specs.Bar.{lowest, bar_questions, behind}
 use Rattle.service.proofs.Answers.{finding, behind-given}
-use Rattle.bar_words.specs.Inner.{is_bar}
 
 -- one record more
-more : (f : BehindCell) (b : Bool) (n : ℕ) → (is_bar f || b) ≡ is_bar (elim f [ bar i ↦ bar i | clear ↦ cond b (bar n) clear ])
-more (bar i) b n = refl
-more clear true n = refl
-more clear false n = refl
+more : (f : Option ℕ) (b : Bool) (n : ℕ) → (is_some f || b) ≡ is_some (elim f [ Some i ↦ Some i | None ↦ cond b (Some n) None ])
+more (Some i) b n = refl
+more None true n = refl
+more None false n = refl
 
-any-lowest : {A : Type 0} (p : A → Bool) (f : ℕ → A) (n : ℕ) → any_of p (tabulate f n) ≡ is_bar (lowest (λ i. p (f i)) n)
+any-lowest : {A : Type 0} (p : A → Bool) (f : ℕ → A) (n : ℕ) → any_of p (tabulate f n) ≡ is_some (lowest (λ i. p (f i)) n)
 unfolding any_of tabulate lowest
 any-lowest p f zero = refl
 any-lowest p f (suc n) =
@@ -33,13 +33,13 @@ any-lowest p f (suc n) =
     ∙ ap₂ ◌||◌ (any-lowest p f n) (or-false (p (f n)))
     ∙ more (lowest (λ i. p (f i)) n) (p (f n)) n
 
-module _ (s : List ℕ) (n : ℕ) {b : BehindCell} (e : behind s n ≡ gives b) where
-  pub behind-filled : filled_in s n ≡ is_bar b
+module _ (s : List ℕ) (n : ℕ) {b : Option ℕ} (e : behind s n ≡ gives b) where
+  pub behind-filled : filled_in s n ≡ is_some b
   unfolding obstacles behind
   behind-filled =
       let g = (header_of s).grid in
       any-lowest (λ t. overlaps_cell g (lattice_of g) t n) (λ i. (record_of s i).triangle) (header_of s).count
-      ∙ ap is_bar (asked-given (finding s n) (bar_questions s n) e).1
+      ∙ ap is_some (asked-given (finding s n) (bar_questions s n) e).1
 
-  pub behind-map : (m : List ℕ) (count : ℕ) → filling s m ≡ gives count → is_filled (filled_bytes s m) n ≡ is_bar b
+  pub behind-map : (m : List ℕ) (count : ℕ) → filling s m ≡ gives count → is_filled (filled_bytes s m) n ≡ is_some b
   behind-map m count f = rule-filled s m count f n (behind-given s n e).1 ∙ behind-filled

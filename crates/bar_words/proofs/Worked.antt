@@ -8,17 +8,18 @@ use Rattle.refusal.specs.Limit.{gives, refused}
 use Rattle.refusal.specs.Questions.{answered, of_each}
 use Rattle.overlap.specs.Rule.{overlaps_box}
 use Rattle.layout.specs.Values.{header_in, reserved_in, kind_in, record_in}
-use Rattle.service.specs.Bar.{clear, bar, lowest, behind}
+use Rattle.std.specs.Prelude.{Some, None}
+use Rattle.service.specs.Bar.{lowest, behind}
 
 abbrev g : List ℕ
 g = 0x10 ∷ 0x41 ∷ 0x04 ∷ 0x28 ∷ 0x00 ∷ 0x00 ∷ 0x00 ∷ 0x00 ∷ 0x00 ∷ 0x00 ∷ 0x10 ∷ 0x00 ∷ 0x00 ∷ 0x01 ∷ 0x00 ∷ 0x50 ∷ 0x00 ∷ 0x50 ∷ 0x05 ∷ 0x00 ∷ 0x14 ∷ 0x00 ∷ 0x14 ∷ 0x01 ∷ 0x40 ∷ 0x00 ∷ 0x40 ∷ 0x05 ∷ []
 
 -- a filled cell, an empty one, and a number that no cell has
-cell-3 : behind g 3 ≡ gives (bar 0)
+cell-3 : behind g 3 ≡ gives (Some 0)
 unfolding bit_at field_at signed_at header_in reserved_in kind_in record_in answered of_each overlaps_box lowest behind
 cell-3 = refl
 
-cell-0 : behind g 0 ≡ gives clear
+cell-0 : behind g 0 ≡ gives None
 unfolding bit_at field_at signed_at header_in reserved_in kind_in record_in answered of_each overlaps_box lowest behind
 cell-0 = refl
 
@@ -30,6 +31,6 @@ cell-8 = refl
 abbrev largest : List ℕ
 largest = 0x1f ∷ 0xff ∷ 0xfc ∷ 0x04 ∷ 0x00 ∷ 0x00 ∷ 0x00 ∷ 0x00 ∷ 0x00 ∷ 0x00 ∷ 0x00 ∷ 0x00 ∷ []
 
-last-cell : behind largest 262143 ≡ gives clear
+last-cell : behind largest 262143 ≡ gives None
 unfolding bit_at field_at signed_at header_in reserved_in kind_in record_in answered of_each overlaps_box lowest behind
 last-cell = refl

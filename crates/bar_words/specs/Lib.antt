@@ -1,2 +1,0 @@
--- inner
-pub mod Inner
