@@ -48,10 +48,13 @@ pub fn record_numbers(rec: Record) -> [i32; 10]
     ]
 }
 
-// Copies all numbers to the start of `out`.
+// Copies all numbers to the start of `out`. No `copy_from_slice`, which takes addresses as numbers: `firmware/retarget` could not take the library to
+// a controller.
 pub fn copy(numbers: &[i32], out: &mut [i32])
     requires { length numbers.now ≤ length out.old }
     ensures { out.new ≡ numbers.now ++ drop (length numbers.now) out.old }
 {
-    out[..numbers.len()].copy_from_slice(numbers);
+    for (i, number) in numbers.iter().enumerate() {
+        out[i] = *number;
+    }
 }
