@@ -1,17 +1,17 @@
 -- Worked examples, by computation on the definitions: the order of a grid's values, the writer's questions in turn, and the bytes behind a file and after a refusal.
 -- Assumes nothing.
+use Rattle.std.specs.Prelude.{ℕ, Ok}
 use mathlib.Core.List.{List, [], ◌∷◌}
 use mathlib.Core.Path.{◌≡◌, refl}
 use lib.IntN.{ℤ, pos}
 use lib.ListN.{replicate}
 use Rattle.bits.specs.Field.{bytes_of}
-use Rattle.refusal.specs.Limit.{gives, refused}
+use Rattle.refusal.specs.Limit.{Answer, gives, refused, said}
 use Rattle.refusal.specs.Questions.{answered}
 use Rattle.layout_write.specs.Writing.{header_bytes}
 use Rattle.writable.specs.Fits.{all_below}
 use Rattle.frame_write.specs.declared.GridValues.{GridValues}
-use Rattle.frame_write.specs.declared.Written.TheVariants.{Length}
-use Rattle.frame_write.specs.Write.{grid_from, concat_below, writing, written_bytes, said_written}
+use Rattle.frame_write.specs.Write.{grid_from, concat_below, writing, written_bytes}
 
 -- cells along x, y, z; cell edge; origin x, y, z
 pub in_order : grid_from (pos 1 ∷ pos 2 ∷ pos 3 ∷ pos 4 ∷ pos 5 ∷ pos 6 ∷ pos 7 ∷ [])
@@ -56,5 +56,5 @@ pub kept : written_bytes (grid (pos 10)) [] (replicate 11 0xaa) ≡ replicate 11
 unfolding answered all_below writing written_bytes
 kept = refl
 
-pub said : said_written (Length 28) ≡ gives 28
-said = refl
+pub said_length : ◌≡◌ {A = Answer ℕ} (said (Ok 28)) (gives 28)
+said_length = refl

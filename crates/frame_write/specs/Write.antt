@@ -1,6 +1,6 @@
 -- Writing a frame file: what is asked of the values, the file's bytes, and what the call says and leaves. Definitions only.
 use Rattle.std.specs.Prelude.{List, [], ◌∷◌, ◌++◌, ℕ, zero, suc, ◌/◌, ◌%◌, leb, eqb, ℤ, pos, length, drop}
-use Rattle.refusal.specs.Limit.{Answer, gives, said_limit, unless_refused}
+use Rattle.refusal.specs.Limit.{Answer, unless_refused}
 use Rattle.refusal.specs.Questions.{Question, ◌asks◌, answered}
 use Rattle.layout.specs.declared.Layout.{Layout}
 use Rattle.layout.specs.Layout.{version1, record_start}
@@ -8,8 +8,6 @@ use Rattle.layout.specs.Values.{number_at}
 use Rattle.layout_write.specs.Writing.{header_bytes, record_bytes}
 use Rattle.writable.specs.Fits.{header_fits, triangle_fits, triangle_numbers, all_below}
 use Rattle.frame_write.specs.declared.GridValues.{GridValues}
-use Rattle.frame_write.specs.declared.Written.{Written}
-use Rattle.frame_write.specs.declared.Written.TheVariants.{Length, Refused}
 
 -- ---- the values
 -- The grid's values that a list begins with, in the order of the header: cells along x, y, z, cell edge, origin x, y, z.
@@ -58,8 +56,3 @@ writing g zs room = answered (write_questions version1 g zs room) (record_start 
 unfoldable pub written_bytes : GridValues → List ℤ → (out : List ℕ) → List ℕ
 written_bytes g zs out =
     unless_refused (writing g zs (length out)) (file_bytes version1 g zs ++ drop (record_start version1 (triangle_count zs)) out) out
-
--- What each case of the code's enum says.
-abbrev pub said_written : Written → Answer ℕ
-said_written (Length n) = gives n
-said_written (Refused l) = said_limit l

@@ -2,18 +2,18 @@
 #![tactic(auto)]
 
 ghost use Rattle.std.specs.Prelude.{true, ◌++◌, ◌≡◌, ◌+◌, ◌*◌, ◌<◌, ◌≤◌, length, take, drop};
-ghost use Rattle.refusal.specs.Inner.{said_verdict, passed, asked};
+ghost use Rattle.refusal.specs.Limit.{said};
+ghost use Rattle.refusal.specs.Inner.{passed, asked};
 ghost use Rattle.layout.specs.Layout.{version1, header_fields, record_fields, record_start};
 ghost use Rattle.layout_write.specs.Writing.{can_hold_all, header_bytes, record_bytes};
-ghost use Rattle.layout_write.specs.Put.{WritableLayout};
 ghost use Rattle.writable.specs.Fits.{triangle_numbers, all_below, triangle_fits};
-ghost use Rattle.frame_write.specs.Write.{grid_from, header_to_write, triangle_count, write_questions, records_bytes, file_bytes, writing, written_bytes, said_written};
+ghost use Rattle.frame_write.specs.Write.{grid_from, header_to_write, triangle_count, write_questions, records_bytes, file_bytes, writing, written_bytes};
 
-use layout::Layout;
-use refusal::{Limit, Verdict};
+use layout_write::WritableLayout;
+use refusal::Limit;
 
 // A grid's values: cells along x, y and z, cell edge, and the origin.
-#[derive(Clone, Copy)]
+#[derive(Clone, Copy, Debug, PartialEq, Eq)]
 pub struct GridValues {
     pub nx: i32,
     pub ny: i32,
@@ -40,46 +40,40 @@ pub fn grid_from(numbers: &[i32]) -> GridValues
     }
 }
 
-// What a writing answers: the file's length, or the first limit broken.
-#[derive(Clone, Copy)]
-pub enum Written {
-    Length(usize),
-    Refused(Limit),
-}
-
-// Writes the file of a grid and its triangles to the start of `out`.
-pub fn write(grid: GridValues, triangles: &[i32], out: &mut [u8]) -> Written
-    ensures { (said_written result ≡ writing grid triangles.now (length out.old)) × (out.new ≡ written_bytes grid triangles.now out.old) }
+// Writes the file of a grid and its triangles to the start of `out`, and answers its length, or the first limit broken.
+pub fn write(grid: GridValues, triangles: &[i32], out: &mut [u8]) -> Result<usize, Limit>
+    ensures { (said result ≡ writing grid triangles.now (length out.old)) × (out.new ≡ written_bytes grid triangles.now out.old) }
 {
-    let layout = layout::version_1();
-    match check(layout, grid, triangles, out.len()) {
-        Verdict::Broken(limit) => Written::Refused(limit),
-        Verdict::Passed => Written::Length(put_file(grid, triangles, out)),
-    }
+    check(layout_write::version_1(), grid, triangles, out.len())?;
+    Ok(put_file(grid, triangles, out))
 }
 
 // Puts the questions in turn: the values, then the room.
-fn check(layout: Layout, grid: GridValues, triangles: &[i32], room: usize) -> Verdict
-    requires { WritableLayout layout }
-    ensures { said_verdict result ≡ asked (write_questions layout grid triangles.now room) }
+fn check(
+    layout: WritableLayout,
+    grid: GridValues,
+    triangles: &[i32],
+    room: usize,
+) -> Result<(), Limit>
+    ensures { said result ≡ asked (write_questions layout.shape grid triangles.now room) }
 {
     let count = triangles.len() / 10;
     if 4095 < count {
-        return Verdict::Broken(Limit::Unwritable);
+        return Err(Limit::Unwritable);
     }
     if !writable::header_fits(layout, &header_numbers(grid, count)) {
-        return Verdict::Broken(Limit::Unwritable);
+        return Err(Limit::Unwritable);
     }
     if triangles.len() % 10 != 0 {
-        return Verdict::Broken(Limit::Unwritable);
+        return Err(Limit::Unwritable);
     }
     if !writable::triangles_fit(layout, triangles, count) {
-        return Verdict::Broken(Limit::Unwritable);
+        return Err(Limit::Unwritable);
     }
-    if room < layout::record_start(layout, count) {
-        return Verdict::Broken(Limit::ShortOutput);
+    if room < layout::record_start(layout.shape, count) {
+        return Err(Limit::ShortOutput);
     }
-    Verdict::Passed
+    Ok(())
 }
 
 // The numbers of the header that is written.
@@ -117,8 +111,11 @@ pub fn put_head(grid: GridValues, count: usize, out: &mut [u8])
     requires { (count < 4096) × (can_hold_all (header_fields version1) (header_to_write grid count) ≡ true) × (12 ≤ length out.old) }
     ensures { out.new ≡ header_bytes version1 (header_to_write grid count) ++ drop 12 out.old }
 {
-    let layout = layout::version_1();
-    layout_write::put_header(layout, &mut out[..12], &header_numbers(grid, count));
+    layout_write::put_header(
+        layout_write::version_1(),
+        &mut out[..12],
+        &header_numbers(grid, count),
+    );
 }
 
 // Writes the records behind the header's place.
@@ -126,11 +123,9 @@ fn put_records(triangles: &[i32], count: usize, out: &mut [u8])
     requires { (count < 4096) × (length triangles.now ≡ count * 10) × (record_start version1 count ≤ length out.old) × (all_below (λ i. triangle_fits version1 (triangle_numbers triangles.now i)) count ≡ true) }
     ensures { out.new ≡ take 12 out.old ++ (records_bytes version1 triangles.now count ++ drop (record_start version1 count) out.old) }
 {
-    let mut i = 0;
-    while i < count {
+    for i in 0..count {
         let first = i * 10;
         put_at(out, i, &triangles[first..first + 10]);
-        i += 1;
     }
 }
 
@@ -140,8 +135,7 @@ pub fn put_at(out: &mut [u8], i: usize, numbers: &[i32])
     requires { (i < 4096) × (can_hold_all (record_fields version1) numbers.now ≡ true) × (record_start version1 i + 16 ≤ length out.old) }
     ensures { out.new ≡ take (record_start version1 i) out.old ++ (record_bytes version1 numbers.now ++ drop 16 (drop (record_start version1 i) out.old)) }
 {
-    let layout = layout::version_1();
-    let start = layout::record_start(layout, i);
-    let end = start + 16;
-    layout_write::put_record(layout, &mut out[start..end], numbers);
+    let layout = layout_write::version_1();
+    let start = layout::record_start(layout.shape, i);
+    layout_write::put_record(layout, &mut out[start..start + 16], numbers);
 }

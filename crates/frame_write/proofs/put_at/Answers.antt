@@ -3,8 +3,6 @@ use Rattle.std.proofs.Common.{rules, ◌≡◌, true, sym, ◌-◌, ◌+◌, len
 use Rattle.layout.specs.declared.Layout.{Layout}
 use Rattle.layout.specs.Layout.{record_fields}
 use Rattle.layout_write.specs.Writing.{can_hold_all}
-use Rattle.layout_write.specs.Put.{WritableLayout}
-use Rattle.layout_write.proofs.Rows.{version1-writable}
 use Rattle.frame_write.proofs.Pieces.{length_part}
 use Rattle.frame_write.proofs.put_at.Goals as goal
 
@@ -12,6 +10,6 @@ pub put_record-requires : goal.put_record-requires
 put_record-requires c =
     let r = c.record_start-start.result in
     let s = c.args.out.now in
-    subst (λ (l : Layout). WritableLayout l × (can_hold_all (record_fields l) c.args.numbers.now ≡ true) × (length (take (r + 16 - r) (drop r s)) ≡ l.stride))
+    subst (λ (l : Layout). (can_hold_all (record_fields l) c.args.numbers.now ≡ true) × (length (take (r + 16 - r) (drop r s)) ≡ l.stride))
     (sym c.version_1-layout.ensures)
-    (version1-writable, c.requires.1, length_part r 16 s (search rules))
+    (c.requires.1, length_part r 16 s (search rules))

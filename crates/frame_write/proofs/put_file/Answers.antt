@@ -2,7 +2,6 @@
 use Rattle.std.proofs.Common.{List, ℕ, ℤ, ◌≡◌, ◌≤◌, ◌++◌, ◌*◌, ap, ◌∙◌, length, take, drop, arith}
 use Rattle.layout.specs.declared.Layout.{Layout}
 use Rattle.layout.specs.Layout.{version1, record_start}
-use Rattle.layout.proofs.Bounds.{version1-usable}
 use Rattle.layout_write.specs.Writing.{header_bytes}
 use Rattle.refusal.specs.Inner.{asked, passed}
 use Rattle.frame_write.specs.declared.GridValues.{GridValues}
@@ -41,7 +40,7 @@ put_records-requires c =
 pub record_start-requires : goal.record_start-requires
 record_start-requires c =
     let a = c.args in
-    (rw c.version_1.ensures version1-usable, (yes a.grid a.triangles.now a.out.now c.requires).few)
+    (yes a.grid a.triangles.now a.out.now c.requires).few
 
 pub returns : goal.returns
 returns c =
