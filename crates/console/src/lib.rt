@@ -2,7 +2,7 @@
 // command that runs them has to know goes to standard error, in lines.
 #![tactic(auto)]
 
-ghost use Rattle.std.specs.Prelude.{◌≡◌, ◌≢◌, ℕ, IfOk, IfErr, OnOk, MatchResult, ◌<◌, ◌≤◌, length, take};
+ghost use Rattle.std.specs.Prelude.{◌≡◌, ◌≢◌, ℕ, IfOk, IfErr, OnOk, MatchResult, ◌<◌, ◌≤◌, ◌⊎◌, length, take};
 ghost use Rattle.std.specs.Io.KnownBytes.{Appends, Consumes, IsAtEnd};
 ghost use Rattle.io.specs.Counts.{IsPrefixLen};
 
@@ -54,6 +54,8 @@ pub enum Stopped {
     NoNumber,
     // A read of standard input failed.
     Unread,
+    // The input is too long.
+    Long,
     // A write to standard output failed.
     Lost,
     // Nobody reads standard output any more. The program says nothing then.
@@ -146,6 +148,19 @@ pub fn read_input(rt: &impl Streams, buf: &mut [u8]) -> Result<usize, Stopped>
     }
 }
 
+// Reads standard input, which has to leave room in buf. Where it does not, it says LONG.
+pub fn read_limited_input(rt: &impl Streams, buf: &mut [u8]) -> Result<usize, Stopped>
+    ensures len { IfOk result (λ len. IsPrefixLen len buf.new × (len < length buf.new)) }
+    ensures why { IfErr result (λ why. (why ≡ Stopped.Unread) ⊎ (why ≡ Stopped.Long)) }
+{
+    let len = read_input(rt, buf)?;
+    if len == buf.len() {
+        say(rt, "LONG");
+        return Err(Stopped::Long);
+    }
+    Ok(len)
+}
+
 // Writes the first len bytes to standard output. Where not all are taken, it says LOST; but nothing where nobody reads them.
 pub fn send(rt: &impl Streams, out: &[u8], len: usize) -> Result<(), Stopped> {
     match write(&mut rt.output(), out, len) {
@@ -178,10 +193,25 @@ pub fn say_bytes(rt: &impl Streams, out: &[u8], len: usize) {
     let _ = write(&mut rt.errors(), out, len);
 }
 
-// Says the number and the place of a limit that is broken.
-pub fn say_refusal(rt: &impl Streams, limit: Limit) {
-    let Refusal { number, place } = Refusal::from(limit);
-    say(rt, format_args!("REFUSED {number} {place}"));
+// Writes the frame file that was put into the first bytes of `out`, and says how many triangles and bytes it has; or says
+// the limit that is broken. A header has 12 bytes, and a record 16.
+pub fn send_frame(
+    rt: &impl Streams,
+    out: &[u8],
+    written: Result<usize, Limit>,
+) -> Result<(), Stopped> {
+    match written {
+        Ok(len) => {
+            send(rt, out, len)?;
+            say(rt, format_args!("TRIANGLES {}", len / 16));
+            say(rt, format_args!("BYTES {len}"));
+        }
+        Err(limit) => {
+            let Refusal { number, place } = Refusal::from(limit);
+            say(rt, format_args!("REFUSED {number} {place}"));
+        }
+    }
+    Ok(())
 }
 
 // Says a line to the command.
