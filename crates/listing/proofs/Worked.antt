@@ -15,9 +15,7 @@ use Rattle.frame.specs.Questions.{checked}
 use Rattle.fill.specs.Fill.{obstacles, any_of, grid_of}
 use Rattle.text.specs.Text.{digits, decimal}
 use Rattle.listing.specs.declared.Rest.{Rest}
-use Rattle.listing.specs.declared.Begun.TheVariants.{More}
-use Rattle.listing.specs.declared.Piece.TheVariants.{Written, Last, Unusable}
-use Rattle.listing.specs.Listing.{cell_line, lines_from, first_line, filled_lines, listing, more, short_buffer, all_of, begun, lines_in, piece_of, usable, written, last, unusable, piece, said_begun, said_piece}
+use Rattle.listing.specs.Listing.{cell_line, lines_from, first_line, filled_lines, listing, more, short_buffer, all_of, begun, lines_in, piece_of, usable, written, last, unusable, piece}
 
 abbrev g : List ℕ
 g =
@@ -72,9 +70,3 @@ pub sides :
     ≡ (true ∷ true ∷ false ∷ false ∷ false ∷ false ∷ false ∷ [])
 unfolding usable
 sides = refl
-
-pub said-begun : said_begun (More 14 (left 0)) ≡ gives (more 14 (left 0))
-said-begun = refl
-
-pub said-pieces : (said_piece (Written 12 (left 3)) ∷ said_piece (Last 6) ∷ said_piece Unusable ∷ []) ≡ (written 12 (left 3) ∷ last 6 ∷ unusable ∷ [])
-said-pieces = refl

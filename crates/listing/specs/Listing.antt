@@ -1,5 +1,5 @@
 -- The listing of a file's map, whole and by pieces. Definitions only.
-use Rattle.std.specs.Prelude.{Bool, true, false, cond, ◌&&◌, List, [], ◌∷◌, ◌++◌, ℕ, zero, suc, ◌+◌, ◌-◌, leb, ltb, eqb, length, take}
+use Rattle.std.specs.Prelude.{Option, Some, None, Result, Ok, Err, Bool, true, false, cond, ◌&&◌, List, [], ◌∷◌, ◌++◌, ℕ, zero, suc, ◌+◌, ◌-◌, leb, ltb, eqb, length, take}
 use Rattle.refusal.specs.declared.Refusal.{Refusal}
 use Rattle.refusal.specs.Limit.{Answer, gives, refused, numbered, said_limit}
 use Rattle.refusal.specs.Questions.{answered}
@@ -13,9 +13,9 @@ use Rattle.text.specs.Text.{spliced}
 use Rattle.text.specs.Lines.{filled_line, refused_line, place_line, first_most, line_most}
 use Rattle.listing.specs.declared.Rest.{Rest}
 use Rattle.listing.specs.declared.Begun.{Begun}
-use Rattle.listing.specs.declared.Begun.TheVariants.{More, ShortBuffer, Refused}
+use Rattle.listing.specs.declared.BeginError.{BeginError}
+use Rattle.listing.specs.declared.BeginError.TheVariants.{ShortBuffer, Refused}
 use Rattle.listing.specs.declared.Piece.{Piece}
-use Rattle.listing.specs.declared.Piece.TheVariants.{Written, Last, Unusable}
 
 -- ---- the lines of cells
 -- The line of cell n where it is filled, in a grid with nx × ny cells in a layer; else nothing.
@@ -151,13 +151,16 @@ all_sent (gives (more len rest)) m rooms = eqb (reached m rest rooms) (cell_coun
 all_sent (gives short_buffer) m rooms = false
 all_sent (refused n p) m rooms = true
 
--- ---- what each case of the code's enums says
-abbrev pub said_begun : Begun → Answer Start
-said_begun (More len rest) = gives (more len rest)
-said_begun ShortBuffer = gives short_buffer
-said_begun (Refused l) = said_limit l
+-- ---- what the code's answers say
+abbrev pub said_begun : Result Begun BeginError → Answer Start
+said_begun (Ok b) = gives (more b.len b.rest)
+said_begun (Err ShortBuffer) = gives short_buffer
+said_begun (Err (Refused l)) = said_limit l
 
-abbrev pub said_piece : Piece → Part
-said_piece (Written len rest) = written len rest
-said_piece (Last len) = last len
-said_piece Unusable = unusable
+abbrev pub part_with : (len : ℕ) → Option Rest → Part
+part_with len (Some r) = written len r
+part_with len None = last len
+
+abbrev pub said_piece : Option Piece → Part
+said_piece (Some p) = part_with p.len p.rest
+said_piece None = unusable

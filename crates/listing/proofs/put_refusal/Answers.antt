@@ -18,5 +18,5 @@ pub returns : goal.returns
 unfolding refusal_text
 returns c =
     let out = c.args.out.now in
-    let p = subst (λ (r : Refusal). Puts out 0 (refused_line r.number r.place) c.put_refused.new.out c.put_refused.result) c.refusal-refusal.ensures c.put_refused.ensures in
+    let p = subst (λ (r : Refusal). Puts out 0 (refused_line r.number r.place) c.put_refused.new.out c.put_refused.result) c.from-refusal.ensures c.put_refused.ensures in
     rw (le-ltb (length out) first_most c.if-out-lt64.false) (omega (arith, p.next), p.bytes)
