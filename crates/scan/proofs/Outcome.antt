@@ -3,6 +3,7 @@
 --     file-is                       and writes a record a face
 --     no-grid, no-form, no, yes     each way out
 -- Assumes nothing.
+use Rattle.std.specs.Prelude.{Some, None}
 use mathlib.Core.Bool.{true, false}
 use mathlib.Core.List.{List, [], ◌∷◌, ◌++◌}
 use mathlib.Core.Path.{◌≡◌, refl, sym, ap, ◌∙◌}
@@ -23,7 +24,6 @@ use Rattle.frame_write.specs.Write.{header_to_write, concat_below, triangle_coun
 use Rattle.frame_write.proofs.Asked.{write-refused, write-given}
 use Rattle.frame_write.proofs.Pieces.{pieces-same}
 use Rattle.ply_header.specs.declared.Form.{Form}
-use Rattle.ply_header.specs.declared.Header.TheVariants.{Taken, Other}
 use Rattle.ply.specs.Body.{taken}
 use Rattle.scan.specs.Scan.{triangles, ply_questions, scanned, grid_fits, writing_of, scan_leaves, scanning, scan_bytes}
 use Rattle.scan.specs.Inner.{scan_questions, face_bytes}
@@ -44,12 +44,12 @@ module _ (g : GridValues) (s old : List ℕ) where
     unfolding scanning scan_bytes
     by-file e p q = (rw (fits, e) p, rw (fits, e) q)
 
-    pub no-form : taken s ≡ Other → Promise g s old (refused 13 0) old
+    pub no-form : taken s ≡ None → Promise g s old (refused 13 0) old
     unfolding scanned
     no-form e = by-file {a = refused 13 0} (rw e) refl refl
 
     -- ---- a file whose header has the form
-    module _ (f : Form) (form : taken s ≡ Taken f) (few : f.faces ≤ 4095) where
+    module _ (f : Form) (form : taken s ≡ Some f) (few : f.faces ≤ 4095) where
       abbrev zs : List ℤ
       zs = triangles s f
 

@@ -4,6 +4,7 @@
 --     triangle-fits, all_fit    each fits its record
 --     grid-any                  a header fits with any count that its field can hold
 -- Assumes nothing.
+use Rattle.std.specs.Prelude.{Ok, Err}
 use mathlib.Core.Bool.{Bool, true, false, cond}
 use mathlib.Core.List.{List}
 use mathlib.Core.Path.{◌≡◌, refl, ap, ◌∙◌}
@@ -22,7 +23,7 @@ use Rattle.writable.proofs.All.{all_of}
 use Rattle.frame_write.specs.declared.GridValues.{GridValues}
 use Rattle.frame_write.specs.Write.{header_to_write, triangle_count, concat_below}
 use Rattle.frame_write.proofs.Pieces.{length-pieces, piece-at}
-use Rattle.rounding.specs.declared.Rounded.TheVariants.{Whole, OutOfRange}
+use Rattle.rounding.specs.declared.Unrounded.TheVariants.{OutOfRange}
 use Rattle.rounding.specs.declared.Vertex.{Vertex}
 use Rattle.rounding.specs.Rounding.{whole_of, in_range, rounded_of, millimetres}
 use Rattle.ply_header.specs.declared.Form.{Form}
@@ -62,7 +63,7 @@ held nan = refl
 held (inf s) = refl
 held (fin s m e) = go (in_range (whole_of (fin s m e))) refl
   where
-    go : (b : Bool) → in_range (whole_of (fin s m e)) ≡ b → can_hold (field signed 14) (millimetres (cond b (Whole (whole_of (fin s m e))) OutOfRange)) ≡ true
+    go : (b : Bool) → in_range (whole_of (fin s m e)) ≡ b → can_hold (field signed 14) (millimetres (cond b (Ok (whole_of (fin s m e))) (Err OutOfRange))) ≡ true
     go true t = t
     go false t = refl
 

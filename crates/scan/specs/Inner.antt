@@ -1,11 +1,10 @@
 -- What the functions ask and answer. Definitions only; no public promise cites them.
-use Rattle.std.specs.Prelude.{List, [], ◌∷◌, ◌++◌, ◌≡◌, ℕ, ◌+◌, ◌*◌, ◌<◌, ℤ, leb}
+use Rattle.std.specs.Prelude.{List, [], ◌∷◌, ◌++◌, Some, ◌≡◌, ℕ, ◌+◌, ◌*◌, ◌<◌, ℤ, leb}
 use Rattle.refusal.specs.Questions.{Question, ◌asks◌}
 use Rattle.refusal.specs.Inner.{passed, asked}
 use Rattle.layout.specs.Layout.{version1, record_start}
 use Rattle.layout_write.specs.Writing.{record_bytes}
 use Rattle.ply_header.specs.declared.Form.{Form}
-use Rattle.ply_header.specs.declared.Header.TheVariants.{Taken}
 use Rattle.ply.specs.declared.Corner.{Corner}
 use Rattle.ply.specs.Body.{face_place, taken, corner_at, triangle_at}
 use Rattle.ply.specs.Inner.{Cornered}
@@ -21,7 +20,7 @@ face_bytes s f i = record_bytes version1 (triangle_at s f (face_place s f i))
 
 -- A file that passed all questions, with the room.
 pub record Accepted (s : List ℕ) (f : Form) (room : ℕ) : Type 0 where
-  pub form : taken s ≡ Taken f
+  pub form : taken s ≡ Some f
   pub yes : asked (scan_questions s f room) ≡ passed
 
 -- The three numbers of a corner; and those of corner j of the face at a place.

@@ -1,5 +1,5 @@
 -- A frame file from a scanner's file: its triangles, and what the call says and leaves. Definitions only.
-use Rattle.std.specs.Prelude.{Bool, cond, List, ◌++◌, ℕ, ℤ}
+use Rattle.std.specs.Prelude.{Bool, cond, List, ◌++◌, Option, Some, None, ℕ, ℤ}
 use Rattle.refusal.specs.Limit.{Answer, gives, refused}
 use Rattle.refusal.specs.Questions.{Question, answered, of_each}
 use Rattle.layout.specs.Layout.{version1}
@@ -7,8 +7,6 @@ use Rattle.writable.specs.Fits.{header_fits}
 use Rattle.frame_write.specs.declared.GridValues.{GridValues}
 use Rattle.frame_write.specs.Write.{header_to_write, concat_below, writing, written_bytes}
 use Rattle.ply_header.specs.declared.Form.{Form}
-use Rattle.ply_header.specs.declared.Header.{Header}
-use Rattle.ply_header.specs.declared.Header.TheVariants.{Taken, Other}
 use Rattle.ply.specs.Body.{face_place, taken, vertex_question, face_question, triangle_at}
 
 -- ---- the scanner's file
@@ -21,9 +19,9 @@ abbrev pub ply_questions : List ℕ → Form → List Question
 ply_questions s f = of_each (vertex_question s f) f.vertices ++ of_each (face_question s f) f.faces
 
 -- What it gives, by what is taken of it: its triangles, or 13 where it is not of the form, or the first "no".
-abbrev pub scanned_as : List ℕ → Header → Answer (List ℤ)
-scanned_as s (Taken f) = answered (ply_questions s f) (triangles s f)
-scanned_as s Other = refused 13 0
+abbrev pub scanned_as : List ℕ → Option Form → Answer (List ℤ)
+scanned_as s (Some f) = answered (ply_questions s f) (triangles s f)
+scanned_as s None = refused 13 0
 
 -- What a scanner's file gives.
 unfoldable pub scanned : List ℕ → Answer (List ℤ)

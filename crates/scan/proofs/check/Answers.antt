@@ -2,11 +2,10 @@
 use Rattle.std.proofs.Common.{◌≡◌, List, [], ◌∷◌, ◌++◌, ℕ, leb, refl, sym, ap, ap₂, ◌∙◌, arith}
 use borrow.Author.Tests.{lt-leb, le-leb}
 use Rattle.refusal.specs.Questions.{Question, ◌asks◌, answered, of_each}
-use Rattle.refusal.specs.Inner.{Passing, said_verdict, asked}
+use Rattle.refusal.specs.Inner.{Passing, asked}
+use Rattle.refusal.proofs.Said.{said-err}
 use Rattle.refusal.proofs.Asking.{and_then, first-append}
-use Rattle.layout.specs.declared.Layout.{Layout}
 use Rattle.layout.specs.Layout.{version1, record_start}
-use Rattle.layout.proofs.Bounds.{version1-usable}
 use Rattle.ply_header.specs.declared.Form.{Form}
 use Rattle.ply.specs.Body.{vertex_question, face_question}
 use Rattle.ply.proofs.Taken.{sized}
@@ -31,38 +30,32 @@ module _ (s : List ℕ) (f : Form) (n : ℕ) where
   three : {v w : Passing} → v ≡ asked vertices → w ≡ asked faces → and_then (and_then v w) (asked room) ≡ asked (scan_questions s f n)
   three = in-turn vertices faces room
 
-pub returns-in-Broken : goal.returns-in-Broken
-returns-in-Broken c =
-    let a = c.args in
-    in-turn (vertices a.s.now a.f a.room) (faces a.s.now a.f a.room) (room a.s.now a.f a.room)
-    (sym (ap said_verdict c.in-Broken.is) ∙ c.check_vertices.ensures) refl
+pub returns-in_err-check_vertices : goal.returns-in_err-check_vertices
+returns-in_err-check_vertices c =
+    let p = c.args.ply.now in
+    said-err _ _ c.from_residual.ensures.1 ∙ three p.file.now p.form c.args.room c.in_err-check_vertices.ensures refl
 
-pub returns-in-Broken-check_faces : goal.returns-in-Broken-check_faces
-returns-in-Broken-check_faces c =
-    let a = c.args in
-    in-turn (vertices a.s.now a.f a.room) (faces a.s.now a.f a.room) (room a.s.now a.f a.room)
-    (sym (ap said_verdict c.in-Passed.is) ∙ c.check_vertices.ensures)
-    (sym (ap said_verdict c.in-Broken-check_faces.is) ∙ c.check_faces.ensures)
+pub returns-in_err-check_faces : goal.returns-in_err-check_faces
+returns-in_err-check_faces c =
+    let p = c.args.ply.now in
+    said-err _ _ c.from_residual-in_err-check_faces.ensures.1
+    ∙ three p.file.now p.form c.args.room c.in_ok-check_vertices.ensures c.in_err-check_faces.ensures
+
+pub record_start-requires : goal.record_start-requires
+record_start-requires c = rw c.form.ensures (omega (arith, (sized _ _ c.args.ply.now.whole).faces))
 
 pub returns-then-room-record_start : goal.returns-then-room-record_start
 unfolding answered
 returns-then-room-record_start c =
-    let a = c.args in
-    let size : c.record_start.result ≡ record_start version1 a.f.faces = c.record_start.ensures ∙ ap (λ (l : Layout). record_start l a.f.faces) c.version_1.ensures in
-    rw (lt-leb (record_start version1 a.f.faces) a.room (omega (arith, c.if-room-record_start.true, size))) refl
-    ∙ in-turn (vertices a.s.now a.f a.room) (faces a.s.now a.f a.room) (room a.s.now a.f a.room)
-    (sym (ap said_verdict c.in-Passed.is) ∙ c.check_vertices.ensures)
-    (sym (ap said_verdict c.in-Passed-check_faces.is) ∙ c.check_faces.ensures)
+    let p = c.args.ply.now in
+    let size : c.record_start.result ≡ record_start version1 p.form.faces = c.record_start.ensures ∙ (λ i. record_start (c.version_1.ensures i) (c.form.ensures i).faces) in
+    rw (lt-leb (record_start version1 p.form.faces) c.args.room (omega (arith, c.if-room-record_start.true, size))) refl
+    ∙ three p.file.now p.form c.args.room c.in_ok-check_vertices.ensures c.in_ok-check_faces.ensures
 
-pub returns-else-room-record_start : goal.returns-else-room-record_start
+pub returns : goal.returns
 unfolding answered
-returns-else-room-record_start c =
-    let a = c.args in
-    let size : c.record_start.result ≡ record_start version1 a.f.faces = c.record_start.ensures ∙ ap (λ (l : Layout). record_start l a.f.faces) c.version_1.ensures in
-    rw (le-leb (record_start version1 a.f.faces) a.room (omega (arith, c.if-room-record_start.false, size))) refl
-    ∙ in-turn (vertices a.s.now a.f a.room) (faces a.s.now a.f a.room) (room a.s.now a.f a.room)
-    (sym (ap said_verdict c.in-Passed.is) ∙ c.check_vertices.ensures)
-    (sym (ap said_verdict c.in-Passed-check_faces.is) ∙ c.check_faces.ensures)
-
-pub record_start-requires : goal.record_start-requires
-record_start-requires c = (rw c.version_1.ensures version1-usable, omega (arith, (sized c.args.s.now c.args.f c.requires).faces))
+returns c =
+    let p = c.args.ply.now in
+    let size : c.record_start.result ≡ record_start version1 p.form.faces = c.record_start.ensures ∙ (λ i. record_start (c.version_1.ensures i) (c.form.ensures i).faces) in
+    rw (le-leb (record_start version1 p.form.faces) c.args.room (omega (arith, c.if-room-record_start.false, size))) refl
+    ∙ three p.file.now p.form c.args.room c.in_ok-check_vertices.ensures c.in_ok-check_faces.ensures

@@ -1,7 +1,7 @@
 -- `scan::put_corners`: corner by corner, each behind the one before.
 use Rattle.std.proofs.Common.{◌≡◌, List, ℕ, ◌+◌, ◌*◌, ◌-◌, length, refl, ap, ◌∙◌, arith}
 use borrow.Rule.Slice.PartMut.{put_mid}
-use Rattle.frame_write.proofs.Pieces.{fill_none, fill-room, fill_more, fill-all, length_part}
+use Rattle.frame_write.proofs.Pieces.{fill_none, fill_more, fill-all}
 use Rattle.ply_header.specs.declared.Form.{Form}
 use Rattle.scan.specs.Inner.{numbers_of, corner_numbers}
 use Rattle.scan.proofs.put_corners.Goals as goal
@@ -12,30 +12,12 @@ long s f at j = refl
 pub loop-j-init : goal.loop-j-init
 loop-j-init c = fill_none
 
-pub overflow_add-at : goal.overflow_add-at
-overflow_add-at c = let r = (c.requires.0.corner c.loop-j.j c.loop-j-test.true).room in omega (arith, r)
-
-pub overflow_add-at-in-loop-j : goal.overflow_add-at-in-loop-j
-overflow_add-at-in-loop-j c = let r = (c.requires.0.corner c.loop-j.j c.loop-j-test.true).room in omega (arith, r)
-
-pub corner_at-corner-requires : goal.corner_at-corner-requires
-corner_at-corner-requires c = c.requires.0.corner c.loop-j.j c.loop-j-test.true
-
-pub slice_bounds-put_corner-end : goal.slice_bounds-put_corner-end
-slice_bounds-put_corner-end c =
-    omega (arith, fill-room (long c.args.s.now c.args.f c.args.at) (omega (arith, c.requires.1)) c.loop-j.invariant c.loop-j-test.true)
-
-pub put_corner-requires : goal.put_corner-requires
-put_corner-requires c =
-    length_part (1 + 3 * c.loop-j.j) 3 c.loop-j.numbers
-    (fill-room (long c.args.s.now c.args.f c.args.at) (omega (arith, c.requires.1)) c.loop-j.invariant c.loop-j-test.true)
-
 pub loop-j-preserved : goal.loop-j-preserved
 loop-j-preserved c =
     let first = 1 + 3 * c.loop-j.j in
     let same : first + 3 - first ≡ 3 = omega arith in
-    let part : c.put_corner.new.part ≡ corner_numbers c.args.s.now c.args.f c.args.at c.loop-j.j = c.put_corner.ensures ∙ ap numbers_of c.corner_at-corner.ensures in
-    fill_more (long c.args.s.now c.args.f c.args.at) (omega (arith, c.requires.1)) c.loop-j.invariant c.loop-j-test.true
+    let part : c.put_corner.new.part ≡ corner_numbers c.args.ply.now.file.now c.args.ply.now.form c.args.at c.loop-j.j = c.put_corner.ensures ∙ ap numbers_of c.corner_at-corner.ensures in
+    fill_more (long c.args.ply.now.file.now c.args.ply.now.form c.args.at) (omega (arith, c.requires.1)) c.loop-j.invariant c.loop-j-test.true
     (λ i. put_mid first (same i) c.loop-j.numbers (part i))
 
 pub returns : goal.returns

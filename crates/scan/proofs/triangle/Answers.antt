@@ -16,4 +16,4 @@ all s f at =
     λ i. triangle_of (corner_at s f (a i)) (corner_at s f (b i)) (corner_at s f (c i))
 
 pub returns : goal.returns
-returns c = c.put_corners.ensures ∙ all c.args.s.now c.args.f c.args.at
+returns c = c.put_corners.ensures ∙ all c.args.ply.now.file.now c.args.ply.now.form c.args.at
