@@ -2,10 +2,9 @@
 --     rows                 a block's range is a range of columns
 --     cut_range            a range cut in two
 --     wider                a block of a grid is one of a larger grid
---     halved-u, halved-v   a block cut across an axis
 --     long-u, long-v       the longer side of a block that is not small has two cells
 -- Assumes nothing.
-use mathlib.Core.Bool.{Bool, true, false, ◌&&◌, ◌||◌, and-or_distrib_left, and-or_distrib_right}
+use mathlib.Core.Bool.{Bool, true, false, ◌&&◌, ◌||◌}
 use mathlib.Core.Path.{◌≡◌, refl}
 use Prim.Native.Nat.{ℕ, ◌+◌, ◌-◌, ◌*◌, ◌/◌, ◌<◌, ◌≤◌}
 use native.Mathlib.Decide.{dec_lt}
@@ -19,8 +18,8 @@ use Rattle.pending.specs.Pending.{halvings}
 use Rattle.pending.proofs.Laws.{fewer}
 use Rattle.columns.specs.Draw.{range}
 use Rattle.columns.specs.Column.{RowsIn}
-use Rattle.blocks.specs.declared.Block.{Block}
-use Rattle.blocks.specs.Block.{u_range, v_range, width_of, is_small, SomeCells, BlockIn, SmallerPart, Halved}
+use Rattle.blocks.specs.declared.shape.Block.{Block}
+use Rattle.blocks.specs.Block.{u_range, v_range, width_of, is_small, SomeCells, BlockIn}
 
 -- ---- a range
 pub rows : {n : ℕ} {r : CellRange} → SomeCells n r → RowsIn r n
@@ -57,29 +56,6 @@ cut_range first end m e some most = record {
 -- ---- a block
 pub wider : {mu mv nu nv : ℕ} {b : Block} → mu ≤ nu → mv ≤ nv → BlockIn mu mv b → BlockIn nu nv b
 wider p q h = record { u = record { some = h.u.some; most = le_trans h.u.most p }; v = record { some = h.v.some; most = le_trans h.v.most q } }
-
-module _ (b : Block) (h : BlockIn 64 64 b) where
-  part-u : {p q : ℕ} → p < q → q ≤ b.u1 → halvings (q - p) < halvings (b.u1 - b.u0) → SmallerPart b (record { u0 = p; u1 = q; v0 = b.v0; v1 = b.v1 })
-  part-u some most less = record { inside = record { u = record { some = some; most = most }; v = record { some = h.v.some; most = omega arith } }; less = omega (arith, less) }
-
-  part-v : {p q : ℕ} → p < q → q ≤ b.v1 → halvings (q - p) < halvings (b.v1 - b.v0) → SmallerPart b (record { u0 = b.u0; u1 = b.u1; v0 = p; v1 = q })
-  part-v some most less = record { inside = record { u = record { some = h.u.some; most = omega arith }; v = record { some = some; most = most } }; less = omega (arith, less) }
-
-  pub halved-u : {m : ℕ} → CutRange b.u0 m b.u1
-      → Halved b (record { u0 = b.u0; u1 = m; v0 = b.v0; v1 = b.v1 }) (record { u0 = m; u1 = b.u1; v0 = b.v0; v1 = b.v1 })
-  halved-u c = record {
-    low_part = part-u c.low-some (omega (arith, c.high-some)) c.low-less;
-    high_part = part-u c.high-some (omega arith) c.high-less;
-    both = λ i j. rw (c.both i, and-or_distrib_right);
-  }
-
-  pub halved-v : {m : ℕ} → CutRange b.v0 m b.v1
-      → Halved b (record { u0 = b.u0; u1 = b.u1; v0 = b.v0; v1 = m }) (record { u0 = b.u0; u1 = b.u1; v0 = m; v1 = b.v1 })
-  halved-v c = record {
-    low_part = part-v c.low-some (omega (arith, c.high-some)) c.low-less;
-    high_part = part-v c.high-some (omega arith) c.high-less;
-    both = λ i j. rw (c.both j, and-or_distrib_left);
-  }
 
 -- ---- the longer side
 -- of two sides with a product above 64, the one that is not the shorter

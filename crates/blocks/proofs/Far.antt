@@ -3,7 +3,7 @@
 --     ruled_out        where a block is not kept, no column of it passes
 -- Assumes nothing.
 use mathlib.Core.Bool.{Bool, true, false, cond, ◌&&◌, and-eq-true_iff, false≢true}
-use mathlib.Core.List.{List, [], ◌∷◌}
+use mathlib.Core.List.{[], ◌∷◌}
 use mathlib.Core.Path.{◌≡◌, refl, sym, ◌∙◌}
 use Prim.Native.Nat.{ℕ, ◌-◌, ◌<◌, ◌≤◌}
 use native.Mathlib.Omega.{arith}
@@ -15,14 +15,15 @@ use Rattle.integers.proofs.Expr.{var, num, ◌⊗◌}
 use Rattle.integers.proofs.Certificates.{le, ◌⊠◌, by_le}
 use Rattle.grid.specs.declared.CellRange.{CellRange}
 use Rattle.grid.specs.Range.{in_range}
-use Rattle.forms.specs.Form.{edge_at}
+use Rattle.forms.specs.declared.bounded.Forms.{Forms}
+use Rattle.forms.specs.Forms.{edge_at}
 use Rattle.runs.proofs.Narrow.{in-range}
 use Rattle.columns.specs.declared.Strides.{Strides}
 use Rattle.columns.specs.Draw.{drawn}
 use Rattle.columns.specs.Column.{value_at, column_passes, cell_passes}
 use Rattle.columns.proofs.Drawing.{nothing}
 use Rattle.columns.proofs.Cells.{cell-fails}
-use Rattle.blocks.specs.declared.Block.{Block}
+use Rattle.blocks.specs.declared.shape.Block.{Block}
 use Rattle.blocks.specs.Block.{u_range, v_range, columns_of, far_end, far_value, kept_by}
 
 -- ---- the far end of a range
@@ -48,8 +49,8 @@ module _ (a : ℤ) (first end i : ℕ) (from : first ≤ i) (to : i < end) where
       go false e = rising (lt-false a (pos 0) e)
 
 -- ---- a column of a block
-module _ (l : List ℤ) (b : Block) (i j : ℕ) (inside : columns_of b i j ≡ true) where
-  below : (m : ℕ) → value_at l m i j ≤ℤ far_value l m b
+module _ (l : Forms) (b : Block) (i j : ℕ) (inside : columns_of b i j ≡ true) where
+  below : (m : ℕ) → value_at l m i j ≤ℤ far_value (edge_at l m).uv b
   below m =
       let f = (edge_at l m).uv in
       let (hu, hv) = (and-eq-true_iff (in_range (u_range b) i) (in_range (v_range b) j)).0 inside in
@@ -58,8 +59,8 @@ module _ (l : List ℤ) (b : Block) (i j : ℕ) (inside : columns_of b i j ≡ t
       ≤-add (≤-add (far f.a b.u0 b.u1 i u0 u1) (far f.b b.v0 b.v1 j v0 v1)) (≤ℤ_refl f.c)
 
   -- a value that is not negative is not below the far value
-  more : (m : ℕ) → le_z (pos 0) (value_at l m i j) ≡ true → le_z (pos 0) (far_value l m b) ≡ true
-  more m e = true-le (pos 0) (far_value l m b) (≤_trans (le-true (pos 0) (value_at l m i j) e) (below m))
+  more : (m : ℕ) → le_z (pos 0) (value_at l m i j) ≡ true → le_z (pos 0) (far_value (edge_at l m).uv b) ≡ true
+  more m e = true-le (pos 0) (far_value (edge_at l m).uv b) (≤_trans (le-true (pos 0) (value_at l m i j) e) (below m))
 
   kept : column_passes l i j ≡ true → kept_by l b ≡ true
   unfolding kept_by
@@ -75,5 +76,5 @@ module _ (l : List ℤ) (b : Block) (i j : ℕ) (inside : columns_of b i j ≡ t
       go true p = absurd (false≢true (sym e ∙ kept p))
       go false p = refl
 
-pub ruled_out : (g : Strides) (l : List ℤ) (w : CellRange) (b : Block) → kept_by l b ≡ false → (n : ℕ) → drawn g (columns_of b) (cell_passes l w) n ≡ false
+pub ruled_out : (g : Strides) (l : Forms) (w : CellRange) (b : Block) → kept_by l b ≡ false → (n : ℕ) → drawn g (columns_of b) (cell_passes l w) n ≡ false
 ruled_out g l w b e = nothing g (columns_of b) (cell_passes l w) (λ i j k h. cell-fails l w i j (fails l b i j h e) k)

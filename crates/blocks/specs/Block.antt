@@ -1,14 +1,17 @@
 -- Blocks of columns: cutting one, ruling one out, and what a fill asks. Definitions only.
-use Rattle.std.specs.Prelude.{Bool, cond, ◌||◌, List, ◌≡◌, ℕ, ◌+◌, ◌-◌, ◌*◌, ◌<◌, ◌≤◌, leb, ℤ, pos, ◌-ℤ◌}
+use Rattle.std.specs.Prelude.{Bool, cond, ◌||◌, ◌≡◌, ℕ, ◌+◌, ◌-◌, ◌*◌, ◌<◌, ◌≤◌, leb, ℤ, pos, ◌-ℤ◌}
 use Rattle.std.specs.Int.Signed.{lt_z}
 use Rattle.grid.specs.declared.BoxRange.{BoxRange}
 use Rattle.grid.specs.declared.CellRange.{CellRange}
-use Rattle.forms.specs.Form.{edge_at, BoundedForms}
-use Rattle.column_rule.specs.Column.{uv_of, square_passes}
+use Rattle.forms.specs.declared.EdgeForm.{EdgeForm}
+use Rattle.forms.specs.declared.bounded.Forms.{Forms}
+use Rattle.forms.specs.Form.{value_of}
+use Rattle.forms.specs.Forms.{edge_at}
+use Rattle.column_rule.specs.Column.{square_passes}
 use Rattle.pending.specs.Pending.{halvings}
 use Rattle.columns.specs.declared.Strides.{Strides}
 use Rattle.columns.specs.Draw.{Numbers, cells_of, range, rectangle}
-use Rattle.blocks.specs.declared.Block.{Block}
+use Rattle.blocks.specs.declared.shape.Block.{Block}
 
 -- ---- a block: its ranges on the two axes, and its columns
 abbrev pub u_range : Block → CellRange
@@ -52,20 +55,19 @@ pub record Halved (b low high : Block) : Type 0 where
   pub both : (i j : ℕ) → columns_of b i j ≡ (columns_of low i j || columns_of high i j)
 
 -- ---- a block that an edge rules out
--- The cell of a range from `first` on and below `end` at which a × i is greatest; the greatest value of edge m's form of uv in the block; no edge is negative
--- there.
+-- The cell of a range from `first` on and below `end` at which a × i is greatest; the greatest value of an edge's form in the block; no edge's form of uv is
+-- negative there.
 abbrev pub far_end : ℤ → (first end : ℕ) → ℤ
 far_end a first end = cond (lt_z a (pos 0)) (pos first) (pos end -ℤ pos 1)
 
-abbrev pub far_value : List ℤ → ℕ → Block → ℤ
-far_value l m b = uv_of (edge_at l m) (far_end (edge_at l m).uv.a b.u0 b.u1) (far_end (edge_at l m).uv.b b.v0 b.v1)
+abbrev pub far_value : EdgeForm → Block → ℤ
+far_value f b = value_of f (far_end f.a b.u0 b.u1) (far_end f.b b.v0 b.v1)
 
-unfoldable pub kept_by : List ℤ → Block → Bool
-kept_by l b = square_passes (far_value l 0 b) (far_value l 1 b) (far_value l 2 b)
+unfoldable pub kept_by : Forms → Block → Bool
+kept_by f b = square_passes (far_value (edge_at f 0).uv b) (far_value (edge_at f 1).uv b) (far_value (edge_at f 2).uv b)
 
--- ---- what a fill asks: the forms, the grid's numbers, room in the map, and a box of cells in the grid, which is not empty
-pub record BoxReady (l : List ℤ) (g : Strides) (bytes : ℕ) (b : BoxRange) : Type 0 where
-  pub forms : BoundedForms l
+-- ---- what a fill asks: the grid's numbers, room in the map, and a box of cells in the grid, which is not empty
+pub record BoxReady (g : Strides) (bytes : ℕ) (b : BoxRange) : Type 0 where
   pub numbers : Numbers g
   pub room : cells_of g ≤ 8 * bytes
   pub x : SomeCells g.nu b.x

@@ -16,16 +16,10 @@ pub fn boxes_meet(t: Triangle, p: Point, extent: i64) -> bool
     requires { BoundedTriangle t × BoundedPoint p × Within extent_max extent }
     ensures { result ≡ boxes_hold t p (cube extent) }
 {
-    let v0 = t.v0;
-    let v1 = t.v1;
-    let v2 = t.v2;
-    if !axis_meets(v0.x, v1.x, v2.x, p.x, extent) {
-        return false;
-    }
-    if !axis_meets(v0.y, v1.y, v2.y, p.y, extent) {
-        return false;
-    }
-    axis_meets(v0.z, v1.z, v2.z, p.z, extent)
+    let Triangle { v0, v1, v2 } = t;
+    axis_meets(v0.x, v1.x, v2.x, p.x, extent)
+        && axis_meets(v0.y, v1.y, v2.y, p.y, extent)
+        && axis_meets(v0.z, v1.z, v2.z, p.z, extent)
 }
 
 // What the rule asks beyond the boxes: the plane, and the edges in each plane of two axes.
@@ -41,11 +35,7 @@ fn axis_meets(a0: i64, a1: i64, a2: i64, low: i64, extent: i64) -> bool
     requires { Withins axis_bounds (a0 ∷ a1 ∷ a2 ∷ low ∷ extent ∷ []) }
     ensures { result ≡ axis_meets a0 a1 a2 low extent }
 {
-    let least = integers::min(integers::min(a0, a1), a2);
-    if low + extent < least {
-        return false;
-    }
-    low <= integers::max(integers::max(a0, a1), a2)
+    a0.min(a1).min(a2) <= low + extent && low <= a0.max(a1).max(a2)
 }
 
 // The same of a triangle that is measured from the box's lowest corner.
@@ -54,19 +44,11 @@ fn forms_meet(t: Triangle, extent: i64) -> bool
     ensures { result ≡ forms_meet t extent }
 {
     let n = placed::normal(t);
-    let v0 = t.v0;
-    let v1 = t.v1;
-    let v2 = t.v2;
-    if !plane_meets(n, v0, extent) {
-        return false;
-    }
-    if !edges_meet(n.z, v0.x, v0.y, v1.x, v1.y, v2.x, v2.y, extent) {
-        return false;
-    }
-    if !edges_meet(n.x, v0.y, v0.z, v1.y, v1.z, v2.y, v2.z, extent) {
-        return false;
-    }
-    edges_meet(n.y, v0.z, v0.x, v1.z, v1.x, v2.z, v2.x, extent)
+    let Triangle { v0, v1, v2 } = t;
+    plane_meets(n, v0, extent)
+        && edges_meet(n.z, v0.x, v0.y, v1.x, v1.y, v2.x, v2.y, extent)
+        && edges_meet(n.x, v0.y, v0.z, v1.y, v1.z, v2.y, v2.z, extent)
+        && edges_meet(n.y, v0.z, v0.x, v1.z, v1.x, v2.z, v2.x, extent)
 }
 
 // Does the plane with normal n through the corner v pass the box?
@@ -74,11 +56,8 @@ fn plane_meets(n: Point, v: Point, extent: i64) -> bool
     requires { PointWithin normal_max n × PointWithin offset_max v × Within extent_max extent }
     ensures { result ≡ plane_meets n v extent }
 {
-    let f = forms::plane_form(n.x, n.y, n.z, v.x, v.y, v.z, 0, extent);
-    if f.at < 0 {
-        return false;
-    }
-    f.at <= f.reach
+    let f = forms::plane_form(n, v, 0, extent);
+    0 <= f.at && f.at <= f.reach
 }
 
 // In the plane of two axes, does the box reach the inner side of each edge? n is the normal's component on the third axis.
@@ -86,13 +65,9 @@ fn edges_meet(n: i64, a0: i64, b0: i64, a1: i64, b1: i64, a2: i64, b2: i64, exte
     requires { Withins edges_bounds (n ∷ a0 ∷ b0 ∷ a1 ∷ b1 ∷ a2 ∷ b2 ∷ extent ∷ []) }
     ensures { result ≡ edges_meet n a0 b0 a1 b1 a2 b2 extent }
 {
-    if !edge_meets(n, a0, b0, a1, b1, extent) {
-        return false;
-    }
-    if !edge_meets(n, a1, b1, a2, b2, extent) {
-        return false;
-    }
-    edge_meets(n, a2, b2, a0, b0, extent)
+    edge_meets(n, a0, b0, a1, b1, extent)
+        && edge_meets(n, a1, b1, a2, b2, extent)
+        && edge_meets(n, a2, b2, a0, b0, extent)
 }
 
 // The same of the edge from the corner (va, vb) to the corner (wa, wb).

@@ -7,6 +7,7 @@ use Rattle.geometry.specs.Geometry.{x_of, y_of, z_of}
 use Rattle.overlap.specs.Rule.{normal, plane_holds, edges_hold}
 use Rattle.forms.specs.declared.Edge.{Edge}
 use Rattle.forms.specs.declared.PlaneForm.{PlaneForm}
+use Rattle.forms.specs.Form.{value_of}
 use Rattle.runs.specs.Run.{passes, in_slab}
 
 -- What the overlap rule asks beyond the boxes: the plane, and the edges in three planes.
@@ -16,7 +17,7 @@ forms_hold t p d =
 
 -- An edge's form of uv at the column (u, v).
 abbrev pub uv_of : Edge → (u v : ℤ) → ℤ
-uv_of e u v = e.uv.a *ℤ u +ℤ e.uv.b *ℤ v +ℤ e.uv.c
+uv_of e u v = value_of e.uv u v
 
 -- The plane passes cell k of the column.
 abbrev pub plane_passes : PlaneForm → (u v : ℤ) → ℕ → Bool

@@ -1,12 +1,11 @@
 -- The cells of one column, of a row, of a rectangle.
---     square-0, square-1, square-2       the test of a column's square
 --     next-value, value-within           an edge's value of the next column, and its bound
 --     cell-fails, ruled_out, let-in      a column that an edge rules out, and one that none rules out
 --     still-ready                        what a fill asks, after columns were drawn
 --     no-columns, more-columns           columns drawn one after the other
 --     row_more, rectangle-more           a row grows by a column, and a rectangle by a row
 -- Assumes nothing.
-use mathlib.Core.Bool.{Bool, true, false, ◌&&◌, ◌||◌, and-false, or-true, and-or_distrib_left, and-or_distrib_right}
+use mathlib.Core.Bool.{Bool, true, false, ◌&&◌, ◌||◌, or-true, and-or_distrib_left, and-or_distrib_right}
 use mathlib.Core.List.{List, [], ◌∷◌}
 use mathlib.Core.Path.{◌≡◌, refl, sym, ap, ◌∙◌}
 use Prim.Native.Nat.{ℕ, ◌+◌, ◌≤◌, ◌<◌}
@@ -15,53 +14,35 @@ use native.Mathlib.Omega.{arith}
 use borrow.Author.Tests.{eqb-true, eq-eqb}
 use lib.Dec.{eqb, lit≤}
 use lib.IntN.{ℤ, pos, ◌+ℤ◌}
-use lib.Signed.{le_z, lt_z}
 use Rattle.integers.specs.Within.{Within}
-use Rattle.integers.proofs.Omega.{zarith}
 use Rattle.integers.proofs.Expr.{var, num, ◌⊕◌, ◌⊗◌}
 use Rattle.integers.proofs.Ring.{ring}
 use Rattle.integers.proofs.Bounds.{within-add, within-mul, within-weaken}
 use Rattle.grid.specs.declared.CellRange.{CellRange}
 use Rattle.grid.specs.Range.{in_range}
-use Rattle.forms.specs.Form.{edge_at, BoundedForm}
-use Rattle.column_rule.specs.Column.{uv_of, square_passes}
-use Rattle.columns.specs.declared.Strides.{Strides}
+use Rattle.forms.specs.declared.bounded.Forms.{Forms}
+use Rattle.forms.specs.Form.{value_max, BoundedForm}
+use Rattle.forms.specs.Forms.{edge_at}
+use Rattle.column_rule.specs.Column.{uv_of}
+use Rattle.columns.specs.declared.ready.Columns.{Columns}
 use Rattle.columns.specs.Draw.{one_column, row_of, rectangle, range}
-use Rattle.columns.specs.Column.{value_at, value_max, column_passes, cell_passes, run_cells, ColumnsReady, DrawsColumns}
+use Rattle.columns.specs.Column.{value_at, column_passes, cell_passes, run_cells, ColumnsReady, DrawsColumns}
 use Rattle.columns.proofs.Drawing.{of-column, draws-nothing, draws-then, drawn-or}
 use Rattle.integers.proofs.Truth.{same_truth}
 use Rattle.runs.proofs.Narrow.{in-range, range-in}
 
--- ---- the test of a square: a value that is negative, and values that are not
-pub negative : (x : ℤ) → lt_z x (pos 0) ≡ true → le_z (pos 0) x ≡ false
-negative x e = omega zarith
-
-pub positive : (x : ℤ) → lt_z x (pos 0) ≡ false → le_z (pos 0) x ≡ true
-positive x e = omega zarith
-
-module _ (x0 x1 x2 : ℤ) where
-  pub square-0 : lt_z x0 (pos 0) ≡ true → square_passes x0 x1 x2 ≡ false
-  square-0 e = ap (λ (b : Bool). b && le_z (pos 0) x1 && le_z (pos 0) x2) (negative x0 e)
-
-  pub square-1 : lt_z x1 (pos 0) ≡ true → square_passes x0 x1 x2 ≡ false
-  square-1 e =
-      ap (λ (b : Bool). le_z (pos 0) x0 && b && le_z (pos 0) x2) (negative x1 e) ∙ ap (λ (b : Bool). b && le_z (pos 0) x2) (and-false (le_z (pos 0) x0))
-
-  pub square-2 : lt_z x0 (pos 0) ≡ false → lt_z x1 (pos 0) ≡ false → square_passes x0 x1 x2 ≡ le_z (pos 0) x2
-  square-2 e f = λ i. positive x0 e i && positive x1 f i && le_z (pos 0) x2
-
 -- ---- an edge's value of a column, and of the next on u
-pub next-value : (l : List ℤ) (m a : ℕ) (v : ℤ) → uv_of (edge_at l m) (pos a) v +ℤ (edge_at l m).uv.a ≡ uv_of (edge_at l m) (pos (a + 1)) v
+pub next-value : (l : Forms) (m a : ℕ) (v : ℤ) → uv_of (edge_at l m) (pos a) v +ℤ (edge_at l m).uv.a ≡ uv_of (edge_at l m) (pos (a + 1)) v
 next-value l m a v =
     let f = (edge_at l m).uv in
     ring (f.a ∷ f.b ∷ f.c ∷ pos a ∷ v ∷ []) (var 0 ⊗ var 3 ⊕ var 1 ⊗ var 4 ⊕ var 2 ⊕ var 0) (var 0 ⊗ (var 3 ⊕ num 1) ⊕ var 1 ⊗ var 4 ⊕ var 2) tt
 
-pub value-within : (l : List ℤ) (m i j : ℕ) → BoundedForm (edge_at l m).uv → i ≤ 64 → j ≤ 64 → Within value_max (value_at l m i j)
+pub value-within : (l : Forms) (m i j : ℕ) → BoundedForm (edge_at l m).uv → i ≤ 64 → j ≤ 64 → Within value_max (value_at l m i j)
 value-within l m i j b hi hj =
     within-weaken (lit≤ tt) (within-add (within-add (within-mul b.a (record { within = hi })) (within-mul b.b (record { within = hj }))) b.c)
 
 -- ---- a column that an edge rules out, and one that none rules out
-module _ (l : List ℤ) (w : CellRange) (i j : ℕ) where
+module _ (l : Forms) (w : CellRange) (i j : ℕ) where
   abbrev cells : ℕ → ℕ → ℕ → Bool
   cells = run_cells l w (pos i) (pos j) (value_at l 0 i j) (value_at l 1 i j) (value_at l 2 i j)
 
@@ -103,17 +84,20 @@ range-more {first} {k} o x = same_truth (in_range (range first k) x || eqb x k) 
 
 -- ---- a row, and a rectangle, column by column and row by row
 -- what a fill asks is there again when columns were drawn in a map of the same length
-pub still-ready : {l : List ℤ} {g : Strides} {w : CellRange} {m n hint near : ℕ} → ColumnsReady l g m w hint → n ≡ m → w.first ≤ near → near ≤ w.end → ColumnsReady l g n w near
-still-ready p e lo hi = record { forms = p.forms; numbers = p.numbers; room = rw e p.room; ordered = p.ordered; end = p.end; low = lo; high = hi }
+pub still-ready : {c : Columns} {m n hint near : ℕ} → ColumnsReady c m hint → n ≡ m → c.w.first ≤ near → near ≤ c.w.end → ColumnsReady c n near
+still-ready p e lo hi = record { room = rw e p.room; low = lo; high = hi }
 
-module _ (l : List ℤ) (g : Strides) (w : CellRange) where
-  pub no-columns : (cols : ℕ → ℕ → Bool) (map : List ℕ) (hint : ℕ) → ((a b : ℕ) → cols a b ≡ true → ⊥) → w.first ≤ hint → hint ≤ w.end
-      → DrawsColumns l g w cols map map hint
-  no-columns cols map hint none lo hi = record { draws = draws-nothing g cols (cell_passes l w) map (λ a b k e. absurd (none a b e)); low = lo; high = hi }
+module _ (c : Columns) where
+  abbrev passes : ℕ → ℕ → ℕ → Bool
+  passes = cell_passes c.forms.now c.w
 
-  pub more-columns : {p q r : ℕ → ℕ → Bool} {a b c : List ℕ} {x y : ℕ} → ((i j : ℕ) → (p i j || q i j) ≡ r i j)
-      → DrawsColumns l g w p a b x → DrawsColumns l g w q b c y → DrawsColumns l g w r a c y
-  more-columns {p} {q} {r} e f h = record { draws = draws-then g f.draws h.draws (drawn-or g p q r (cell_passes l w) e); low = h.low; high = h.high }
+  pub no-columns : (cols : ℕ → ℕ → Bool) (map : List ℕ) (hint : ℕ) → ((a b : ℕ) → cols a b ≡ true → ⊥) → c.w.first ≤ hint → hint ≤ c.w.end
+      → DrawsColumns c cols map map hint
+  no-columns cols map hint none lo hi = record { draws = draws-nothing c.g cols passes map (λ a b k e. absurd (none a b e)); low = lo; high = hi }
+
+  pub more-columns : {p q r : ℕ → ℕ → Bool} {old mid new : List ℕ} {x y : ℕ} → ((i j : ℕ) → (p i j || q i j) ≡ r i j)
+      → DrawsColumns c p old mid x → DrawsColumns c q mid new y → DrawsColumns c r old new y
+  more-columns {p} {q} {r} e f h = record { draws = draws-then c.g f.draws h.draws (drawn-or c.g p q r passes e); low = h.low; high = h.high }
 
 pub row_more : {first k : ℕ} → first ≤ k → (j x y : ℕ) → (row_of (range first k) j x y || one_column k j x y) ≡ row_of (range first (k + 1)) j x y
 row_more {first} {k} o j x y = sym (and-or_distrib_right (in_range (range first k) x) (eqb x k) (eqb y j)) ∙ ap (λ (b : Bool). b && eqb y j) (range-more o x)

@@ -1,6 +1,7 @@
 -- The size of what the set-up computes: of a number that is turned, and of the forms of a bounded triangle.
 -- Assumes nothing.
 use mathlib.Core.Bool.{Bool, true, false, cond}
+use mathlib.Core.Path.{◌≡◌}
 use Prim.Native.Nat.{ℕ, zero-le}
 use lib.Dec.{lit≤}
 use lib.IntN.{ℤ, pos, nat_abs}
@@ -8,7 +9,9 @@ use lib.Signed.{◌≤ℤ◌, le_z, lt_z}
 use Rattle.integers.specs.Within.{Within}
 use Rattle.integers.proofs.Laws.{nn-mul}
 use Rattle.integers.proofs.Bounds.{within-add, within-sub, within-mul, within-neg, within-weaken}
-use Rattle.integers.proofs.MinMax.{within-max}
+use Rattle.integers.proofs.MinMax.{max!, within-max}
+use Rattle.integers.proofs.Omega.{zarith}
+use Rattle.std.specs.Int.{int_max}
 use Rattle.integers.proofs.Orientation.{turned_by, orientation-nn}
 use Rattle.geometry.specs.Bounds.{offset_max, difference_max, normal_max, step_max, extent_max, PointWithin, TriangleWithin}
 use Rattle.geometry.specs.declared.Point.{Point}
@@ -16,6 +19,9 @@ use Rattle.geometry.specs.declared.Triangle.{Triangle}
 use Rattle.overlap.specs.Rule.{normal, turned}
 use Rattle.forms.specs.Form.{inside_max, BoundedForm, BoundedEdge, BoundedPlane}
 use Rattle.forms.specs.Triangle.{component, edge_form, inside_from, edge_between, plane_form, EdgeReady}
+
+pub max-swap : (a b : ℤ) → int_max a b ≡ int_max b a
+max-swap a b = omega (zarith, max! a b, max! b a)
 
 pub within-zero : {B : ℕ} → Within B (pos 0)
 within-zero = record { within = zero-le }

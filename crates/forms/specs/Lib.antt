@@ -1,3 +1,4 @@
 -- inner
 pub mod Form
+pub mod Forms
 pub mod Triangle

@@ -12,7 +12,9 @@ use Rattle.overlap.specs.Rule.{normal, turned}
 use Rattle.forms.specs.declared.EdgeForm.{EdgeForm}
 use Rattle.forms.specs.declared.Edge.{Edge}
 use Rattle.forms.specs.declared.PlaneForm.{PlaneForm}
-use Rattle.forms.specs.Form.{edge_at, plane_at, inside_max, BoundedForms}
+use Rattle.forms.specs.declared.bounded.Forms.{Forms}
+use Rattle.forms.specs.Form.{inside_max}
+use Rattle.forms.specs.Forms.{edge_at, plane_at}
 
 -- The component of the normal on the third axis, where (a0, b0), (a1, b1) and (a2, b2) are the corners in the plane of the axes a and b.
 abbrev pub component : (a0 b0 a1 b1 a2 b2 : ℤ) → ℤ
@@ -57,24 +59,20 @@ plane_form n v s d =
       reach = d *ℤ (pos (nat_abs m.x) +ℤ pos (nat_abs m.y) +ℤ m.z);
     }
 
--- All forms of a triangle, in their list, bounded so that a caller may compute with them.
-pub record FormsFor (t : Triangle) (s d : ℤ) (l : List ℤ) : Type 0 where
-  pub plane : plane_at l ≡ plane_form (normal t) t.v0 s d
-  pub e0 : edge_at l 0 ≡ edge_between (normal t) t.v0 t.v1 s d
-  pub e1 : edge_at l 1 ≡ edge_between (normal t) t.v1 t.v2 s d
-  pub e2 : edge_at l 2 ≡ edge_between (normal t) t.v2 t.v0 s d
-  pub bounded : BoundedForms l
+-- All forms of a triangle.
+pub record FormsFor (t : Triangle) (s d : ℤ) (f : Forms) : Type 0 where
+  pub plane : plane_at f ≡ plane_form (normal t) t.v0 s d
+  pub e0 : edge_at f 0 ≡ edge_between (normal t) t.v0 t.v1 s d
+  pub e1 : edge_at f 1 ≡ edge_between (normal t) t.v1 t.v2 s d
+  pub e2 : edge_at f 2 ≡ edge_between (normal t) t.v2 t.v0 s d
 
 -- ---- what the functions ask: their numbers' bounds, in their parameters' order
--- An edge, its starting corner, step and extent; a normal's component, an edge and the extent; a normal, a corner, step and extent.
+-- An edge, its starting corner, step and extent; a normal's component, an edge and the extent.
 abbrev pub edge_bounds : List ℕ
 edge_bounds = each difference_max 2 (each offset_max 2 (step_max ∷ extent_max ∷ []))
 
 abbrev pub inside_bounds : List ℕ
 inside_bounds = normal_max ∷ difference_max ∷ difference_max ∷ extent_max ∷ []
-
-abbrev pub plane_bounds : List ℕ
-plane_bounds = each normal_max 3 (each offset_max 3 (step_max ∷ extent_max ∷ []))
 
 -- A normal, and the corners of an edge.
 pub record EdgeReady (n p q : Point) (s d : ℤ) : Type 0 where

@@ -1,15 +1,17 @@
 // The forms of a triangle (the set-up of Schwarz and Seidel): linear functions of a cell's numbers, whose signs decide the overlap rule. The axes are
-// named u, v and w: x, y and z, or a turn of them. The numbers stand in one list, which is lent: a struct by value would be copied at each call.
+// named u, v and w: x, y and z, or a turn of them. The forms stand in one struct, which is lent.
 #![tactic(auto)]
 
-ghost use Rattle.std.specs.Prelude.{[], ◌∷◌, ◌≡◌, ◌^◌, ◌<◌, pos, ◌≤ℤ◌};
+ghost use Rattle.std.specs.Prelude.{[], ◌∷◌, ◌≡◌, ◌^◌, pos, ◌≤ℤ◌};
 ghost use Rattle.integers.specs.Within.{Within, Withins};
-ghost use Rattle.geometry.specs.Bounds.{offset_max, step_max, extent_max, TriangleWithin};
-ghost use Rattle.geometry.specs.Geometry.{point};
+ghost use Rattle.geometry.specs.Bounds.{offset_max, normal_max, step_max, extent_max, index_max, PointWithin, TriangleWithin};
 ghost use Rattle.overlap.specs.Rule.{turned, normal};
-ghost use Rattle.forms.specs.Form.{form_from, edge_at, plane_at, form_list, BoundedEdge, BoundedPlane};
-ghost use Rattle.forms.specs.Triangle.{edge_form, inside_from, edge_between, plane_form, edge_bounds, inside_bounds, plane_bounds, EdgeReady, FormsFor};
+ghost use Rattle.forms.specs.Form.{value_of, value_max, BoundedForm};
+ghost use Rattle.forms.specs.Triangle.{edge_form, inside_from, edge_between, plane_form, edge_bounds, inside_bounds, EdgeReady, FormsFor};
 
+mod bounded;
+
+pub use bounded::Forms;
 use geometry::{Point, Triangle};
 
 // An edge in the plane of two axes: a cell with the numbers i and j there reaches the edge's inner side where a × i + b × j + c >= 0.
@@ -18,6 +20,16 @@ pub struct EdgeForm {
     pub a: i64,
     pub b: i64,
     pub c: i64,
+}
+
+impl EdgeForm {
+    // The form at the cells with the numbers i and j.
+    pub fn at(&self, i: i64, j: i64) -> i64
+        requires { BoundedForm self.now × Within index_max i × Within index_max j }
+        ensures { (result ≡ value_of self.now i j) × Within value_max result }
+    {
+        self.a * i + self.b * j + self.c
+    }
 }
 
 // An edge in the three planes; and the value of its form of uv from which on a whole square is on the inner side.
@@ -54,8 +66,8 @@ pub fn edge_form(n: i64, ea: i64, eb: i64, va: i64, vb: i64, step: i64, extent: 
 {
     let ma = turned(n, -eb);
     let mb = turned(n, ea);
-    let up_a = integers::max(0, ma);
-    let up_b = integers::max(0, mb);
+    let up_a = ma.max(0);
+    let up_b = mb.max(0);
     let c = extent * (up_a + up_b) - (ma * va + mb * vb);
     EdgeForm {
         a: step * ma,
@@ -69,12 +81,12 @@ fn inside_from(n: i64, ea: i64, eb: i64, extent: i64) -> i64
     requires { Withins inside_bounds (n ∷ ea ∷ eb ∷ extent ∷ []) }
     ensures { result ≡ inside_from n ea eb extent }
 {
-    let steep = integers::magnitude(n);
+    let steep = n.abs();
     if steep <= 0 {
         return 4611686018427387904;
     }
-    let a = integers::magnitude(ea);
-    let b = integers::magnitude(eb);
+    let a = ea.abs();
+    let b = eb.abs();
     extent * (a + b)
 }
 
@@ -96,27 +108,19 @@ fn edge_between(n: Point, from: Point, to: Point, step: i64, extent: i64) -> Edg
     Edge { uv, vw, wu, inside }
 }
 
-// The plane with normal (nx, ny, nz) through the corner (x, y, z), turned so that it does not fall along w.
-pub fn plane_form(
-    nx: i64,
-    ny: i64,
-    nz: i64,
-    x: i64,
-    y: i64,
-    z: i64,
-    step: i64,
-    extent: i64,
-) -> PlaneForm
-    requires { Withins plane_bounds (nx ∷ ny ∷ nz ∷ x ∷ y ∷ z ∷ step ∷ extent ∷ []) }
-    ensures { result ≡ plane_form (point nx ny nz) (point x y z) step extent }
+// The plane with normal n through the corner v, turned so that it does not fall along w.
+pub fn plane_form(n: Point, v: Point, step: i64, extent: i64) -> PlaneForm
+    requires { PointWithin normal_max n × PointWithin offset_max v × Within step_max step × Within extent_max extent }
+    ensures { result ≡ plane_form n v step extent }
 {
-    let mx = turned(nz, nx);
-    let my = turned(nz, ny);
-    let mz = turned(nz, nz);
-    let up_x = integers::max(0, mx);
-    let up_y = integers::max(0, my);
-    let size_x = integers::magnitude(mx);
-    let size_y = integers::magnitude(my);
+    let Point { x, y, z } = v;
+    let mx = turned(n.z, n.x);
+    let my = turned(n.z, n.y);
+    let mz = turned(n.z, n.z);
+    let up_x = mx.max(0);
+    let up_y = my.max(0);
+    let size_x = mx.abs();
+    let size_y = my.abs();
     let at = extent * (up_x + up_y + mz) - (mx * x + my * y + mz * z);
     let reach = extent * (size_x + size_y + mz);
     PlaneForm {
@@ -128,87 +132,20 @@ pub fn plane_form(
     }
 }
 
-// The numbers in one list: ten for each edge, then the plane's.
-fn form_list(p: PlaneForm, e0: Edge, e1: Edge, e2: Edge) -> [i64; 35]
-    requires { BoundedPlane p × BoundedEdge e0 × BoundedEdge e1 × BoundedEdge e2 }
-    ensures { result ≡ form_list p e0 e1 e2 }
-{
-    [
-        e0.uv.a, e0.uv.b, e0.uv.c, e0.vw.a, e0.vw.b, e0.vw.c, e0.wu.a, e0.wu.b, e0.wu.c, e0.inside,
-        e1.uv.a, e1.uv.b, e1.uv.c, e1.vw.a, e1.vw.b, e1.vw.c, e1.wu.a, e1.wu.b, e1.wu.c, e1.inside,
-        e2.uv.a, e2.uv.b, e2.uv.c, e2.vw.a, e2.vw.b, e2.vw.c, e2.wu.a, e2.wu.b, e2.wu.c, e2.inside,
-        p.u, p.v, p.w, p.at, p.reach,
-    ]
-}
-
 // The forms of a triangle with normal n. The corners are measured from the lowest corner of the lattice's first box.
-pub fn triangle_forms(t: Triangle, n: Point, step: i64, extent: i64) -> [i64; 35]
+pub fn triangle_forms(t: Triangle, n: Point, step: i64, extent: i64) -> Forms
     requires { TriangleWithin offset_max t × (n ≡ normal t) × Within step_max step × (pos 0 ≤ℤ step) × Within extent_max extent }
     ensures { FormsFor t step extent result }
 {
     let v0 = t.v0;
     let v1 = t.v1;
     let v2 = t.v2;
-    let plane = plane_form(n.x, n.y, n.z, v0.x, v0.y, v0.z, step, extent);
+    let plane = plane_form(n, v0, step, extent);
     let e0 = edge_between(n, v0, v1, step, extent);
     let e1 = edge_between(n, v1, v2, step, extent);
     let e2 = edge_between(n, v2, v0, step, extent);
-    form_list(plane, e0, e1, e2)
-}
-
-// The three numbers from a place of the list on, as an edge in the plane of two axes.
-fn form_from(forms: &[i64; 35], at: usize) -> EdgeForm
-    requires { at < 33 }
-    ensures { result ≡ form_from forms.now at }
-{
-    EdgeForm {
-        a: forms[at],
-        b: forms[at + 1],
-        c: forms[at + 2],
-    }
-}
-
-// Edge m in the plane uv.
-pub fn uv(forms: &[i64; 35], m: usize) -> EdgeForm
-    requires { m < 3 }
-    ensures { result ≡ (edge_at forms.now m).uv }
-{
-    form_from(forms, 10 * m)
-}
-
-// Edge m in the plane vw.
-pub fn vw(forms: &[i64; 35], m: usize) -> EdgeForm
-    requires { m < 3 }
-    ensures { result ≡ (edge_at forms.now m).vw }
-{
-    form_from(forms, 10 * m + 3)
-}
-
-// Edge m in the plane wu.
-pub fn wu(forms: &[i64; 35], m: usize) -> EdgeForm
-    requires { m < 3 }
-    ensures { result ≡ (edge_at forms.now m).wu }
-{
-    form_from(forms, 10 * m + 6)
-}
-
-// The value of edge m's form of uv from which on a square is inside of it.
-pub fn inside(forms: &[i64; 35], m: usize) -> i64
-    requires { m < 3 }
-    ensures { result ≡ (edge_at forms.now m).inside }
-{
-    forms[10 * m + 9]
-}
-
-// The plane.
-pub fn plane(forms: &[i64; 35]) -> PlaneForm
-    ensures { result ≡ plane_at forms.now }
-{
-    PlaneForm {
-        u: forms[30],
-        v: forms[31],
-        w: forms[32],
-        at: forms[33],
-        reach: forms[34],
+    Forms {
+        edges: [e0, e1, e2],
+        plane,
     }
 }

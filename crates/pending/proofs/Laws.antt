@@ -1,5 +1,5 @@
 -- Laws of a map that is filled by pieces.
---     stack_top, stack-halves       a block is taken from the array, and its halves take its place
+--     taken, length-put             the last block is taken, and another put in its place
 --     each_halves                   what holds of each block
 --     begun, finished, halved, done what is filled and what is pending, from the first block to the last
 --     lighter, halves-lighter       what falls with each turn
@@ -7,51 +7,33 @@
 -- Assumes nothing.
 use mathlib.Core.Bool.{Bool, true, false, ◌||◌, or_assoc, or-false}
 use mathlib.Core.List.{List, [], ◌∷◌}
+use Rattle.std.proofs.Common.{Some, drop}
+use Rattle.std.specs.List.{slice_get}
 use mathlib.Core.Path.{◌≡◌, refl, sym, ap, ◌∙◌}
-use Prim.Native.Nat.{ℕ, zero, suc, ◌+◌, ◌-◌, ◌*◌, ◌^◌, ◌<◌, ◌≤◌}
+use Prim.Native.Nat.{ℕ, ◌+◌, ◌*◌, ◌^◌, ◌<◌, ◌≤◌}
 use native.Mathlib.Decide.{dec_lt}
 use native.Mathlib.Nat.{pow-suc}
-use native.Mathlib.Numerals.{add-one}
 use native.Mathlib.Omega.{arith}
 use borrow.Author.Tests.{lt-ltb, le-ltb}
 use lib.Dec.{ltb}
-use lib.ListN.{length, get_or, set, length-set}
+use lib.ListN.{length}
 use lib.Pow.{pow_mono, pow_pos}
-use lib.Seq.{get_or-set_same, get_or-set_other}
 use Rattle.map.specs.Map.{is_filled, bit}
-use Rattle.pending.specs.Pending.{stack, waits, Progress, Each, weight, load, put_if, halvings}
+use Rattle.pending.specs.Pending.{waits, Progress, Each, weight, load, put_if, halvings}
 
 pub bit-most : (k : Bool) → bit k ≤ 1
 bit-most true = omega arith
 bit-most false = omega arith
 
 module _ {B : Type 0} where
-  -- ---- the array
-  module _ (z : B) where
-    pub stack-length : (xs : List B) (n : ℕ) → length (stack z xs n) ≡ n
-    unfolding stack
-    stack-length xs zero = refl
-    stack-length xs (suc n) = ap suc (stack-length xs n)
+  -- the last block is taken
+  pub taken : (xs : List B) {ys : List B} {b : B} → Some b ≡ slice_get xs 0 → ys ≡ drop 1 xs → xs ≡ b ∷ ys
+  taken [] e f = cc
+  taken (x ∷ xs) e f = cc
 
-    pub stack_top : (xs : List B) (n : ℕ) → 0 < n → stack z xs n ≡ get_or xs (n - 1) z ∷ stack z xs (n - 1)
-    unfolding stack
-    stack_top xs n h = let e : n ≡ suc (n - 1) = omega arith in ap (stack z xs) e
-
-    below : (xs : List B) (p : ℕ) (b : B) (n : ℕ) → n ≤ p → stack z (set xs p b) n ≡ stack z xs n
-    unfolding stack
-    below xs p b zero h = refl
-    below xs p b (suc n) h = λ i. get_or-set_other xs p n b z (λ e. omega arith) i ∷ below xs p b n (omega arith) i
-
-    stack-put : (xs : List B) (p : ℕ) (k : Bool) (b : B) → p < length xs → stack z (set xs p b) (p + bit k) ≡ put_if k b (stack z xs p)
-    unfolding stack
-    stack-put xs p true b h = ap (stack z (set xs p b)) (add-one p) ∙ (λ i. get_or-set_same xs p b z h i ∷ below xs p b p (omega arith) i)
-    stack-put xs p false b h = let e : p + 0 ≡ p = omega arith in ap (stack z (set xs p b)) e ∙ below xs p b p (omega arith)
-
-    -- the halves of block p take its place, the lower one above
-    pub stack-halves : (xs : List B) (p : ℕ) (lower upper : Bool) (low high : B) → p + 1 < length xs
-        → stack z (set (set xs p high) (p + bit upper) low) (p + bit upper + bit lower) ≡ put_if lower low (put_if upper high (stack z xs p))
-    stack-halves xs p lower upper low high h =
-        stack-put (set xs p high) (p + bit upper) lower low (simp length-set (omega (arith, bit-most upper))) ∙ ap (put_if lower low) (stack-put xs p upper high (omega arith))
+  pub length-put : (k : Bool) (b : B) (bs : List B) → length (put_if k b bs) ≤ length bs + 1
+  length-put true b bs = omega arith
+  length-put false b bs = omega arith
 
   -- ---- each block's property
   module _ (P : ℕ → B → Type 0) where
@@ -62,11 +44,7 @@ module _ {B : Type 0} where
     pub each_halves : (lower upper : Bool) (low high : B) (bs : List B) → Each P bs → (upper ≡ true → P (length bs) high)
         → (lower ≡ true → (place : ℕ) → place ≤ length bs + 1 → P place low) → Each P (put_if lower low (put_if upper high bs))
     each_halves lower upper low high bs rest new-high new-low =
-        each-put lower low (put_if upper high bs) (each-put upper high bs rest new-high) (λ e. new-low e (length (put_if upper high bs)) (length-put upper))
-      where
-        length-put : (k : Bool) → length (put_if k high bs) ≤ length bs + 1
-        length-put true = omega arith
-        length-put false = omega arith
+        each-put lower low (put_if upper high bs) (each-put upper high bs rest new-high) (λ e. new-low e (length (put_if upper high bs)) (length-put upper high bs))
 
   -- ---- what is filled, and what is pending
   module _ (wanted : B → ℕ → Bool) where

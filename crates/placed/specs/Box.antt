@@ -1,5 +1,5 @@
 -- A triangle's box of cells: whether it has none, and whether it is one cell wide on an axis. Definitions only.
-use Rattle.std.specs.Prelude.{Bool, cond, ◌&&◌, ◌||◌, List, [], ◌∷◌, ℕ, ◌+◌, ◌<◌, leb, eqb, ℤ, pos, ◌+ℤ◌, ◌*ℤ◌}
+use Rattle.std.specs.Prelude.{Bool, cond, Option, Some, None, ◌&&◌, ◌||◌, List, [], ◌∷◌, ℕ, ◌+◌, ◌<◌, leb, eqb, ℤ, pos, ◌+ℤ◌, ◌*ℤ◌}
 use Rattle.std.specs.Int.Signed.{le_z}
 use Rattle.std.specs.Int.{int_min, int_max}
 use Rattle.geometry.specs.Bounds.{coordinate_max, step_max, extent_max, each}
@@ -8,6 +8,8 @@ use Rattle.grid.specs.declared.CellRange.{CellRange}
 use Rattle.geometry.specs.declared.Triangle.{Triangle}
 use Rattle.geometry.specs.Geometry.{Axis, x_of, y_of, z_of}
 use Rattle.grid.specs.declared.Lattice.{Lattice}
+use Rattle.placed.specs.declared.Along.{Along}
+use Rattle.placed.specs.declared.Along.TheVariants.{X, Y, Z}
 
 -- On some axis the box has no cell.
 abbrev pub is_empty : BoxRange → Bool
@@ -27,12 +29,12 @@ one_bounds = coordinate_max ∷ step_max ∷ extent_max ∷ each coordinate_max 
 abbrev pub stays : Lattice → Triangle → CellRange → Axis → Bool
 stays l t r a = is_one r (a l.first) l.step l.extent (a t.v0) (a t.v1) (a t.v2)
 
--- The axis of a row of cells, by whether the triangle stays within one cell on x, y and z: the one that it need not stay on, 1, 2 or 3 for x, y or z, and z
--- before the others; 0 where it stays on fewer than two.
-abbrev pub axis_of : (x y z : Bool) → ℕ
-axis_of x y z = cond x (cond y 3 (cond z 2 0)) (cond y (cond z 1 0) 0)
+-- The axis of a row of cells, by whether the triangle stays within one cell on x, y and z: the one that it need not stay on, and z before the others; none
+-- where it stays on fewer than two.
+abbrev pub axis_of : (x y z : Bool) → Option Along
+axis_of x y z = cond x (cond y (Some Z) (cond z (Some Y) None)) (cond y (cond z (Some X) None) None)
 
-abbrev pub row_axis : Lattice → BoxRange → Triangle → ℕ
+abbrev pub row_axis : Lattice → BoxRange → Triangle → Option Along
 row_axis l b t = axis_of (stays l t b.x x_of) (stays l t b.y y_of) (stays l t b.z z_of)
 
 -- What this asks: the first cell of the box on each axis is one of a grid.

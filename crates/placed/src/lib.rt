@@ -28,6 +28,14 @@ pub struct Placed {
     pub b: BoxRange,
 }
 
+// The axis that a row of cells runs along.
+#[derive(Clone, Copy)]
+pub enum Along {
+    X,
+    Y,
+    Z,
+}
+
 // How the cells are numbered.
 pub fn strides(g: Grid) -> Strides
     requires { (g.nx ≤ 64) × (g.ny ≤ 64) }
@@ -47,47 +55,24 @@ pub fn strides(g: Grid) -> Strides
 pub fn is_empty(b: BoxRange) -> bool
     ensures { result ≡ is_empty b }
 {
-    let x = b.x;
-    let y = b.y;
-    let z = b.z;
-    if x.end <= x.first {
-        return true;
-    }
-    if y.end <= y.first {
-        return true;
-    }
-    z.end <= z.first
+    b.x.end <= b.x.first || b.y.end <= b.y.first || b.z.end <= b.z.first
 }
 
-// The axis of a row of cells that the triangle stays within: 1, 2 or 3 for x, y or z, where it stays within one cell on the other two; 0 for none.
-pub fn row_axis(l: Lattice, b: BoxRange, t: Triangle) -> usize
+// The axis of a row of cells that the triangle stays within: the one on which it need not stay within one cell.
+pub fn row_axis(l: Lattice, b: BoxRange, t: Triangle) -> Option<Along>
     requires { Firsts b × UsableLattice l × BoundedTriangle t }
     ensures { result ≡ row_axis l b t }
 {
-    let first = l.first;
-    let v0 = t.v0;
-    let v1 = t.v1;
-    let v2 = t.v2;
-    let x = b.x;
-    let y = b.y;
-    let z = b.z;
-    let in_y = is_one(y, first.y, l.step, l.extent, v0.y, v1.y, v2.y);
-    let in_z = is_one(z, first.z, l.step, l.extent, v0.z, v1.z, v2.z);
-    if is_one(x, first.x, l.step, l.extent, v0.x, v1.x, v2.x) {
-        if in_y {
-            return 3;
-        }
-        if in_z {
-            return 2;
-        }
-        return 0;
+    let Triangle { v0, v1, v2 } = t;
+    let in_x = is_one(b.x, l.first.x, l.step, l.extent, v0.x, v1.x, v2.x);
+    let in_y = is_one(b.y, l.first.y, l.step, l.extent, v0.y, v1.y, v2.y);
+    let in_z = is_one(b.z, l.first.z, l.step, l.extent, v0.z, v1.z, v2.z);
+    match (in_x, in_y, in_z) {
+        (true, true, _) => Some(Along::Z),
+        (true, false, true) => Some(Along::Y),
+        (false, true, true) => Some(Along::X),
+        _ => None,
     }
-    if in_y {
-        if in_z {
-            return 1;
-        }
-    }
-    0
 }
 
 // On an axis, has the range one cell, and do the three coordinates lie within its box?
@@ -98,13 +83,8 @@ fn is_one(r: CellRange, origin: i64, step: i64, extent: i64, a0: i64, a1: i64, a
     if r.end != r.first + 1 {
         return false;
     }
-    let low = origin + integers::from_index(r.first) * step;
-    let least = integers::min(integers::min(a0, a1), a2);
-    let greatest = integers::max(integers::max(a0, a1), a2);
-    if least < low {
-        return false;
-    }
-    greatest <= low + extent
+    let low = origin + r.first as i64 * step;
+    low <= a0.min(a1).min(a2) && a0.max(a1).max(a2) <= low + extent
 }
 
 // A triangle measured from the lowest corner of the first box, with its normal; columns along z.

@@ -32,7 +32,9 @@ use Rattle.grid.specs.declared.CellRange.{CellRange}
 use Rattle.grid.specs.Range.{in_range}
 use Rattle.ranges.specs.Range.{PicksBox}
 use Rattle.forms.specs.declared.Edge.{Edge}
-use Rattle.forms.specs.Form.{edge_at, plane_at, inside_max, edge_slope_max, edge_max, BoundedEdge}
+use Rattle.forms.specs.declared.bounded.Forms.{Forms}
+use Rattle.forms.specs.Forms.{edge_at, plane_at}
+use Rattle.forms.specs.Form.{inside_max, edge_slope_max, edge_max, BoundedEdge}
 use Rattle.forms.specs.Triangle.{FormsFor}
 use Rattle.integers.proofs.Truth.{same_truth}
 use Rattle.runs.proofs.Narrow.{in-range}
@@ -92,7 +94,7 @@ module _ {g : Strides} {t : Triangle} {l : Lattice} {r : BoxRange} {cells : ℕ}
       ∙ (λ q. sym (p.x.exact i hi) q && sym (p.y.exact j hj) q && sym (p.z.exact k hk) q && forms_hold t (box_corner l i j k) (cube l.extent))
 
   -- ---- column by column
-  module _ (positive : pos 0 ≤ℤ l.extent) (forms : List ℤ) (made : FormsFor (measured_from l.first t) l.step l.extent forms) where
+  module _ (positive : pos 0 ≤ℤ l.extent) (forms : Forms) (made : FormsFor (measured_from l.first t) l.step l.extent forms) where
     below : {x : ℤ} {A B : ℕ} → x ≤ℤ pos A → A < B → x <ℤ pos B
     below h k = omega zarith
 
@@ -115,14 +117,14 @@ module _ {g : Strides} {t : Triangle} {l : Lattice} {r : BoxRange} {cells : ℕ}
     unfolding cell_passes column_test
     passes-is i j k hi hj hk =
         let n = v.numbers in
-        let b = made.bounded in
+        let edge = forms.bounded.edge in
         let mi : i ≤ 64 = omega (arith, n.nu-most) in
         let mj : j ≤ 64 = omega (arith, n.nv-most) in
         rearrange (rectangle r.x r.y i j) (in_range r.z k) (column_passes forms i j)
         (cell_along (plane_at forms) (edge_at forms 0) (edge_at forms 1) (edge_at forms 2) (pos i) (pos j) (value_at forms 0 i j) (value_at forms 1 i j) (value_at forms 2 i j) k)
         ∙ ap (λ (c : Bool). in_range r.x i && in_range r.y j && in_range r.z k && c)
         ((λ q. column_test (made.plane q) (made.e0 q) (made.e1 q) (made.e2 q) (pos i) (pos j) k)
-        ∙ sym (column-law t l positive i j k (small made.e0 b.e0 i j mi mj) (small made.e1 b.e1 i j mi mj) (small made.e2 b.e2 i j mi mj)))
+        ∙ sym (column-law t l positive i j k (small made.e0 (edge 0 (omega arith)) i j mi mj) (small made.e1 (edge 1 (omega arith)) i j mi mj) (small made.e2 (edge 2 (omega arith)) i j mi mj)))
         ∙ sym (by-ranges i j k hi hj hk)
 
     pub adds-columns : {old new : List ℕ} → Draws g (rectangle r.x r.y) (cell_passes forms r.z) old new → Adds cells wanted old new

@@ -7,7 +7,7 @@
 -- Assumes nothing.
 use mathlib.Core.Bool.{Bool, true, ◌&&◌, and-eq-true_iff}
 use mathlib.Core.List.{List}
-use mathlib.Core.Path.{◌≡◌, refl, sym, ap, ◌∙◌, subst}
+use mathlib.Core.Path.{◌≡◌, refl, sym, ap, subst}
 use Prim.Native.Nat.{ℕ, ◌+◌, ◌*◌, ◌≤◌}
 use borrow.Author.Tests.{eqb-true}
 use lib.Dec.{eqb}
@@ -26,6 +26,7 @@ use Rattle.grid.specs.Grid.{cell_count}
 use Rattle.overlap.specs.Rule.{least3, greatest3}
 use Rattle.overlap.specs.Cells.{overlaps_cell}
 use Rattle.ranges.specs.Range.{PicksBox}
+use Rattle.forms.specs.declared.bounded.Forms.{Forms}
 use Rattle.forms.specs.Triangle.{FormsFor}
 use Rattle.column_rule.specs.Turn.{turn_point, turn_triangle}
 use Rattle.columns.specs.Draw.{Draws, one_column, in_run, rectangle}
@@ -33,6 +34,8 @@ use Rattle.columns.specs.Column.{cell_passes}
 use Rattle.placed.specs.declared.Placed.{Placed}
 use Rattle.placed.specs.Numbering.{strides_of, turn_strides}
 use Rattle.placed.specs.Box.{stays, row_axis}
+use Rattle.placed.specs.declared.Along.TheVariants.{X, Y, Z}
+use Rattle.std.proofs.Common.{Some}
 use Rattle.placed.specs.Placed.{placed_in, turn_placed}
 use Rattle.placed.proofs.Rows.{along-x, along-y, along-z}
 use Rattle.placed.proofs.Measured.{measured-within}
@@ -42,7 +45,7 @@ use Rattle.triangles.proofs.Views.{turn-view, turn-numbers, cells-turned}
 use Rattle.triangles.proofs.Adding.{view-z, adds-columns, adds-row}
 
 -- ---- columns of a placed triangle
-pub placed-columns : (p : Placed) (s d : ℤ) (forms : List ℤ) {old new : List ℕ} → pos 0 ≤ℤ d → FormsFor p.t s d forms
+pub placed-columns : (p : Placed) (s d : ℤ) (forms : Forms) {old new : List ℕ} → pos 0 ≤ℤ d → FormsFor p.t s d forms
     → Draws p.s (rectangle p.b.x p.b.y) (cell_passes forms p.b.z) old new → PlacedAdds p s d old new
 placed-columns p s d forms thick made draws t o cells wanted v e = adds-columns v thick forms (subst (λ q. FormsFor q s d forms) (sym e) made) draws
 
@@ -115,26 +118,26 @@ module _ (g : Grid) (l : Lattice) {bytes : ℕ} (ready : Fillable g l bytes) whe
     abbrev in-z : Bool
     in-z = stays l t b.z z_of
 
-    pub row-z : {r : ℕ} {old new : List ℕ} → r ≡ row_axis l b t → r ≡ 3
+    pub row-z : {old new : List ℕ} → Some Z ≡ row_axis l b t
         → Draws (strides_of g) (one_column b.x.first b.y.first) (in_run b.z) old new → AddsTriangle g l t old new
-    row-z h e =
-        let (u, v) = along-z in-x in-y in-z (sym h ∙ e) in
+    row-z h =
+        let (u, v) = along-z in-x in-y in-z h in
         let (eu, lu, hu) = on-axis t b.x x_of u in
         let (ev, lv, hv) = on-axis t b.y y_of v in
         adds-row (view p) ready.boxes.thick eu ev (record { from = lu; to = hu }) (record { from = lv; to = hv })
 
-    pub row-x : {r : ℕ} {old new : List ℕ} → r ≡ row_axis l b t → r ≡ 1
+    pub row-x : {old new : List ℕ} → Some X ≡ row_axis l b t
         → Draws (turn_strides (strides_of g)) (one_column b.y.first b.z.first) (in_run b.x) old new → AddsTriangle g l t old new
-    row-x h e =
-        let (u, v) = along-x in-x in-y in-z (sym h ∙ e) in
+    row-x h =
+        let (u, v) = along-x in-x in-y in-z h in
         let (eu, lu, hu) = on-axis t b.y y_of u in
         let (ev, lv, hv) = on-axis t b.z z_of v in
         adds-row (turn-view (view p)) ready.boxes.thick eu ev (record { from = lu; to = hu }) (record { from = lv; to = hv })
 
-    pub row-y : {r : ℕ} {old new : List ℕ} → r ≡ row_axis l b t → r ≡ 2
+    pub row-y : {old new : List ℕ} → Some Y ≡ row_axis l b t
         → Draws (turn_strides (turn_strides (strides_of g))) (one_column b.z.first b.x.first) (in_run b.y) old new → AddsTriangle g l t old new
-    row-y h e =
-        let (u, v) = along-y in-x in-y in-z (sym h ∙ e) in
+    row-y h =
+        let (u, v) = along-y in-x in-y in-z h in
         let (eu, lu, hu) = on-axis t b.z z_of u in
         let (ev, lv, hv) = on-axis t b.x x_of v in
         adds-row (turn-view (turn-view (view p))) ready.boxes.thick eu ev (record { from = lu; to = hu }) (record { from = lv; to = hv })

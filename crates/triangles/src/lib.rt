@@ -9,7 +9,7 @@ ghost use Rattle.triangles.specs.View.{PlacedReady, PlacedAdds};
 
 use geometry::Triangle;
 use grid::{BoxRange, Grid, Lattice};
-use placed::Placed;
+use placed::{Along, Placed};
 
 // Fills the cells of the grid g whose boxes, those of the lattice l, the triangle overlaps.
 pub fn fill_triangle(map: &mut [u8], g: Grid, l: Lattice, t: Triangle)
@@ -28,30 +28,25 @@ fn fill_box(map: &mut [u8], g: Grid, l: Lattice, b: BoxRange, t: Triangle)
     requires { FillableBox g l (length map.old) b × BoundedTriangle t × PicksBox t l g.nx g.ny g.nz b }
     ensures { AddsTriangle g l t map.old map.new }
 {
-    let x = b.x;
-    let y = b.y;
-    let z = b.z;
     let s = placed::strides(g);
-    let axis = placed::row_axis(l, b, t);
-    if axis == 3 {
-        columns::fill_run(map, s, x.first, y.first, z);
-        return;
-    }
-    if axis == 1 {
-        columns::fill_run(map, placed::turn_strides(s), y.first, z.first, x);
-        return;
-    }
-    if axis == 2 {
-        columns::fill_run(
+    match placed::row_axis(l, b, t) {
+        Some(Along::X) => columns::fill_run(
+            map,
+            placed::turn_strides(s),
+            b.y.first,
+            b.z.first,
+            b.x,
+        ),
+        Some(Along::Y) => columns::fill_run(
             map,
             placed::turn_strides(placed::turn_strides(s)),
-            z.first,
-            x.first,
-            y,
-        );
-        return;
+            b.z.first,
+            b.x.first,
+            b.y,
+        ),
+        Some(Along::Z) => columns::fill_run(map, s, b.x.first, b.y.first, b.z),
+        None => fill_columns(map, g, l, b, t),
     }
-    fill_columns(map, g, l, b, t);
 }
 
 // Fills the cells of the box that the triangle overlaps, in columns along the axis on which its normal is greatest.
@@ -60,22 +55,16 @@ fn fill_columns(map: &mut [u8], g: Grid, l: Lattice, b: BoxRange, t: Triangle)
     ensures { AddsTriangle g l t map.old map.new }
 {
     let p = placed::place(g, l, b, t);
-    let n = p.n;
-    let size_x = integers::magnitude(n.x);
-    let size_y = integers::magnitude(n.y);
-    let size_z = integers::magnitude(n.z);
-    if size_y <= size_x {
-        if size_z <= size_x {
-            fill_placed(map, placed::turned(p), l.step, l.extent);
-            return;
-        }
+    let x = p.n.x.abs();
+    let y = p.n.y.abs();
+    let z = p.n.z.abs();
+    if y <= x && z <= x {
+        fill_placed(map, placed::turned(p), l.step, l.extent);
+    } else if x < y && z <= y {
+        fill_placed(map, placed::turned(placed::turned(p)), l.step, l.extent);
     } else {
-        if size_z <= size_y {
-            fill_placed(map, placed::turned(placed::turned(p)), l.step, l.extent);
-            return;
-        }
+        fill_placed(map, p, l.step, l.extent);
     }
-    fill_placed(map, p, l.step, l.extent);
 }
 
 // Fills the cells of a placed triangle's box that it overlaps.
@@ -83,10 +72,6 @@ fn fill_placed(map: &mut [u8], p: Placed, step: i64, extent: i64)
     requires { PlacedReady p step extent (length map.old) }
     ensures { PlacedAdds p step extent map.old map.new }
 {
-    let t = p.t;
-    let n = p.n;
-    let s = p.s;
-    let b = p.b;
-    let forms = forms::triangle_forms(t, n, step, extent);
-    blocks::fill_columns(map, &forms, s, b);
+    let forms = forms::triangle_forms(p.t, p.n, step, extent);
+    blocks::fill_columns(map, &forms, p.s, p.b);
 }

@@ -1,15 +1,17 @@
 -- `box_test::boxes_meet`: three axes, up to the first that rules out the triangle.
-use Rattle.std.proofs.Common.{◌≡◌, Bool, List, [], ◌∷◌, sym, ◌∙◌, ℕ, ℤ}
+use Rattle.std.proofs.Common.{◌≡◌, Bool, ◌&&◌, List, [], ◌∷◌, ◌∙◌, ℕ, ℤ}
 use Rattle.integers.specs.Within.{Within, Withins}
 use Rattle.integers.proofs.Expr.{Expr, var, nth}
-use Rattle.integers.proofs.Machine.{machs, bounded, learnt}
+use Rattle.integers.proofs.Machine.{machs, learnt}
 use Rattle.geometry.specs.Bounds.{coordinate_max, extent_max, each, BoundedPoint, BoundedTriangle}
 use Rattle.geometry.specs.declared.Point.{Point}
 use Rattle.geometry.specs.declared.Triangle.{Triangle}
 use Rattle.geometry.specs.Geometry.{cube, Axis, x_of, y_of, z_of}
 use Rattle.overlap.specs.Rule.{box_holds}
-use Rattle.box_test.specs.Inner.{axis_meets, axis_bounds}
+use Rattle.box_test.specs.Inner.{axis_meets}
+use Rattle.box_test.proofs.Chain.{and_then, and_else}
 use Rattle.box_test.proofs.boxes_meet.Goals as goal
+use Rattle.box_test.proofs.boxes_meet.Goals.{then-axis_meets, else-axis_meets}
 
 -- the arguments of each call for an axis
 abbrev on_x : List Expr
@@ -39,42 +41,32 @@ module _ {t : Triangle} {p : Point} {extent : ℤ} (h : BoundedTriangle t) (k : 
   holds a = box_holds t p (cube extent) a
 
   -- what a call said of its axis
-  x-is : (r : Bool) {b : Bool} → Meets r (machs ρ on_x) → r ≡ b → holds x_of ≡ b
-  x-is r e f = sym (learnt ρ (Meets r) on_x bs tt ins e) ∙ f
+  x-is : (r : Bool) → Meets r (machs ρ on_x) → r ≡ holds x_of
+  x-is r e = learnt ρ (Meets r) on_x bs tt ins e
 
-  y-is : (r : Bool) {b : Bool} → Meets r (machs ρ on_y) → r ≡ b → holds y_of ≡ b
-  y-is r e f = sym (learnt ρ (Meets r) on_y bs tt ins e) ∙ f
+  y-is : (r : Bool) → Meets r (machs ρ on_y) → r ≡ holds y_of
+  y-is r e = learnt ρ (Meets r) on_y bs tt ins e
 
   z-is : (r : Bool) → Meets r (machs ρ on_z) → r ≡ holds z_of
   z-is r e = learnt ρ (Meets r) on_z bs tt ins e
 
-pub axis_meets-requires : goal.axis_meets-requires
-axis_meets-requires c = let (h, k, l) = c.requires in bounded (ρ h k l) on_x (bs h k l) axis_bounds tt (ins h k l)
-
-pub axis_meets-requires-2 : goal.axis_meets-requires-2
-axis_meets-requires-2 c = let (h, k, l) = c.requires in bounded (ρ h k l) on_y (bs h k l) axis_bounds tt (ins h k l)
-
-pub axis_meets-requires-3 : goal.axis_meets-requires-3
-axis_meets-requires-3 c = let (h, k, l) = c.requires in bounded (ρ h k l) on_z (bs h k l) axis_bounds tt (ins h k l)
-
-pub returns-then-not-axis_meets : goal.returns-then-not-axis_meets
-returns-then-not-axis_meets c =
+pub returns-then-axis_meets-2 : goal.returns-then-axis_meets-2
+returns-then-axis_meets-2 c =
     let (h, k, l) = c.requires in
-    rw (x-is h k l c.axis_meets.result c.axis_meets.ensures c.if-not-axis_meets.true)
+    let z = c.axis_meets-then-axis_meets-2 in
+    let x = x-is h k l c.axis_meets.result c.axis_meets.ensures in
+    let two : c.if-axis_meets.value ≡ (holds h k l x_of && holds h k l y_of) = elim c.if-axis_meets.branch [
+      | then-axis_meets w ↦ let y = w.axis_meets-then-axis_meets in w.value-is ∙ and_then x w.if-axis_meets.true (y-is h k l y.result y.ensures)
+      | else-axis_meets w ↦ w.value-is ∙ and_else (holds h k l y_of) x w.if-axis_meets.false
+    ] in
+    and_then two c.if-axis_meets-2.true (z-is h k l z.result z.ensures)
 
-pub returns-then-not-axis_meets-2 : goal.returns-then-not-axis_meets-2
-returns-then-not-axis_meets-2 c =
+pub returns-else-axis_meets-2 : goal.returns-else-axis_meets-2
+returns-else-axis_meets-2 c =
     let (h, k, l) = c.requires in
-    rw (
-      x-is h k l c.axis_meets.result c.axis_meets.ensures c.if-not-axis_meets.false,
-      y-is h k l c.axis_meets-2.result c.axis_meets-2.ensures c.if-not-axis_meets-2.true,
-    )
-
-pub returns : goal.returns
-returns c =
-    let (h, k, l) = c.requires in
-    rw (
-      x-is h k l c.axis_meets.result c.axis_meets.ensures c.if-not-axis_meets.false,
-      y-is h k l c.axis_meets-2.result c.axis_meets-2.ensures c.if-not-axis_meets-2.false,
-    )
-    (z-is h k l c.axis_meets-3.result c.axis_meets-3.ensures)
+    let x = x-is h k l c.axis_meets.result c.axis_meets.ensures in
+    let two : c.if-axis_meets.value ≡ (holds h k l x_of && holds h k l y_of) = elim c.if-axis_meets.branch [
+      | then-axis_meets w ↦ let y = w.axis_meets-then-axis_meets in w.value-is ∙ and_then x w.if-axis_meets.true (y-is h k l y.result y.ensures)
+      | else-axis_meets w ↦ w.value-is ∙ and_else (holds h k l y_of) x w.if-axis_meets.false
+    ] in
+    and_else (holds h k l z_of) two c.if-axis_meets-2.false

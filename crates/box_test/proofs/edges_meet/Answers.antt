@@ -1,10 +1,12 @@
 -- `box_test::edges_meet`: the three edges in turn, up to the first that rules out the box.
-use Rattle.std.proofs.Common.{◌≡◌, Bool, List, [], ◌∷◌, sym, ◌∙◌, ℤ}
+use Rattle.std.proofs.Common.{◌≡◌, Bool, ◌&&◌, List, [], ◌∷◌, ◌∙◌, ℤ}
 use Rattle.integers.specs.Within.{Withins}
 use Rattle.integers.proofs.Expr.{Expr, var, nth}
-use Rattle.integers.proofs.Machine.{machs, bounded, learnt}
-use Rattle.box_test.specs.Inner.{edge_meets, edge_bounds, edges_bounds}
+use Rattle.integers.proofs.Machine.{machs, learnt}
+use Rattle.box_test.specs.Inner.{edge_meets, edges_bounds}
+use Rattle.box_test.proofs.Chain.{and_then, and_else}
 use Rattle.box_test.proofs.edges_meet.Goals as goal
+use Rattle.box_test.proofs.edges_meet.Goals.{Joined-edge_meets, then-edge_meets, else-edge_meets}
 
 -- the arguments of each call
 abbrev first : List Expr
@@ -24,44 +26,29 @@ module _ {n a0 b0 a1 b1 a2 b2 extent : ℤ} (h : Withins edges_bounds (n ∷ a0 
   abbrev ρ : List ℤ
   ρ = n ∷ a0 ∷ b0 ∷ a1 ∷ b1 ∷ a2 ∷ b2 ∷ extent ∷ []
 
-  first-is : (r : Bool) {b : Bool} → Meets r (machs ρ first) → r ≡ b → edge_meets n a0 b0 a1 b1 extent ≡ b
-  first-is r e f = sym (learnt ρ (Meets r) first edges_bounds tt h e) ∙ f
+  first-is : (r : Bool) → Meets r (machs ρ first) → r ≡ edge_meets n a0 b0 a1 b1 extent
+  first-is r e = learnt ρ (Meets r) first edges_bounds tt h e
 
-  second-is : (r : Bool) {b : Bool} → Meets r (machs ρ second) → r ≡ b → edge_meets n a1 b1 a2 b2 extent ≡ b
-  second-is r e f = sym (learnt ρ (Meets r) second edges_bounds tt h e) ∙ f
+  second-is : (r : Bool) → Meets r (machs ρ second) → r ≡ edge_meets n a1 b1 a2 b2 extent
+  second-is r e = learnt ρ (Meets r) second edges_bounds tt h e
 
   third-is : (r : Bool) → Meets r (machs ρ third) → r ≡ edge_meets n a2 b2 a0 b0 extent
   third-is r e = learnt ρ (Meets r) third edges_bounds tt h e
 
-pub edge_meets-requires : goal.edge_meets-requires
-edge_meets-requires c =
+-- of the first two
+two : (c : Joined-edge_meets) → let a = c.args in c.if-edge_meets.value ≡ (edge_meets a.n a.a0 a.b0 a.a1 a.b1 a.extent && edge_meets a.n a.a1 a.b1 a.a2 a.b2 a.extent)
+two c =
     let a = c.args in
-    bounded (a.n ∷ a.a0 ∷ a.b0 ∷ a.a1 ∷ a.b1 ∷ a.a2 ∷ a.b2 ∷ a.extent ∷ []) first edges_bounds edge_bounds tt c.requires
+    let f = first-is c.requires c.edge_meets.result c.edge_meets.ensures in
+    elim c.if-edge_meets.branch [
+      | then-edge_meets w ↦ let r = w.edge_meets-then-edge_meets in w.value-is ∙ and_then f w.if-edge_meets.true (second-is c.requires r.result r.ensures)
+      | else-edge_meets w ↦ w.value-is ∙ and_else (edge_meets a.n a.a1 a.b1 a.a2 a.b2 a.extent) f w.if-edge_meets.false
+    ]
 
-pub edge_meets-requires-2 : goal.edge_meets-requires-2
-edge_meets-requires-2 c =
-    let a = c.args in
-    bounded (a.n ∷ a.a0 ∷ a.b0 ∷ a.a1 ∷ a.b1 ∷ a.a2 ∷ a.b2 ∷ a.extent ∷ []) second edges_bounds edge_bounds tt c.requires
+pub returns-then-edge_meets-2 : goal.returns-then-edge_meets-2
+returns-then-edge_meets-2 c =
+    let r = c.edge_meets-then-edge_meets-2 in
+    and_then (two c.before.before) c.if-edge_meets-2.true (third-is c.requires r.result r.ensures)
 
-pub edge_meets-requires-3 : goal.edge_meets-requires-3
-edge_meets-requires-3 c =
-    let a = c.args in
-    bounded (a.n ∷ a.a0 ∷ a.b0 ∷ a.a1 ∷ a.b1 ∷ a.a2 ∷ a.b2 ∷ a.extent ∷ []) third edges_bounds edge_bounds tt c.requires
-
-pub returns-then-not-edge_meets : goal.returns-then-not-edge_meets
-returns-then-not-edge_meets c = rw (first-is c.requires c.edge_meets.result c.edge_meets.ensures c.if-not-edge_meets.true)
-
-pub returns-then-not-edge_meets-2 : goal.returns-then-not-edge_meets-2
-returns-then-not-edge_meets-2 c =
-    rw (
-      first-is c.requires c.edge_meets.result c.edge_meets.ensures c.if-not-edge_meets.false,
-      second-is c.requires c.edge_meets-2.result c.edge_meets-2.ensures c.if-not-edge_meets-2.true,
-    )
-
-pub returns : goal.returns
-returns c =
-    rw (
-      first-is c.requires c.edge_meets.result c.edge_meets.ensures c.if-not-edge_meets.false,
-      second-is c.requires c.edge_meets-2.result c.edge_meets-2.ensures c.if-not-edge_meets-2.false,
-    )
-    (third-is c.requires c.edge_meets-3.result c.edge_meets-3.ensures)
+pub returns-else-edge_meets-2 : goal.returns-else-edge_meets-2
+returns-else-edge_meets-2 c = let a = c.args in and_else (edge_meets a.n a.a2 a.b2 a.a0 a.b0 a.extent) (two c.before) c.if-edge_meets-2.false

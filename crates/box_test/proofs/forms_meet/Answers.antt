@@ -1,5 +1,5 @@
 -- `box_test::forms_meet`: the plane, then the edges in three planes, up to the first that rules out the box.
-use Rattle.std.proofs.Common.{◌≡◌, Bool, true, false, ◌&&◌, List, [], ◌∷◌, sym, ◌∙◌, subst, ℕ, ℤ, to_z, of_z, w64}
+use Rattle.std.proofs.Common.{◌≡◌, Bool, ◌&&◌, List, [], ◌∷◌, sym, ◌∙◌, subst, ℕ, ℤ, to_z, of_z, w64}
 use Rattle.integers.specs.Within.{Within, Withins}
 use Rattle.integers.proofs.Expr.{Expr, var, nth}
 use Rattle.integers.proofs.Machine.{machs, run, bounded, learnt}
@@ -9,7 +9,9 @@ use Rattle.geometry.specs.declared.Triangle.{Triangle}
 use Rattle.overlap.specs.Rule.{normal}
 use Rattle.forms.proofs.Sizes.{normal-within}
 use Rattle.box_test.specs.Inner.{plane_meets, edges_meet, forms_meet, edges_bounds}
+use Rattle.box_test.proofs.Chain.{and_then, and_else}
 use Rattle.box_test.proofs.forms_meet.Goals as goal
+use Rattle.box_test.proofs.forms_meet.Goals.{Joined-plane_meets, Joined-edges_meet, then-plane_meets, else-plane_meets, then-edges_meet, else-edges_meet}
 
 -- the arguments of each call for the edges
 abbrev xy : List Expr
@@ -61,28 +63,15 @@ module _ {t : Triangle} {n : Point} {extent : ℤ} (h : TriangleWithin offset_ma
   unfolding forms_meet
   whole {r} f = subst (λ (n : Point). r ≡ all n) e f
 
-  -- up to the first that fails
-  stop1 : plane n ≡ false → false ≡ all n
-  stop1 e = λ i. sym e i && on_xy n && on_yz n && on_zx n
-
-  stop2 : plane n ≡ true → on_xy n ≡ false → false ≡ all n
-  stop2 e f = λ i. sym e i && sym f i && on_yz n && on_zx n
-
-  stop3 : plane n ≡ true → on_xy n ≡ true → on_yz n ≡ false → false ≡ all n
-  stop3 e f g = λ i. sym e i && sym f i && sym g i && on_zx n
-
-  last : plane n ≡ true → on_xy n ≡ true → on_yz n ≡ true → on_zx n ≡ all n
-  last e f g = λ i. sym e i && sym f i && sym g i && on_zx n
-
   -- what each call said
-  plane-is : (r : Bool) {b : Bool} → r ≡ plane_meets n t.v0 (to_z w64 (of_z w64 extent)) → r ≡ b → plane n ≡ b
-  plane-is r f g = sym (f ∙ (λ i. plane_meets n t.v0 (run ρ (var 12) bs tt ins i))) ∙ g
+  plane-is : (r : Bool) → r ≡ plane_meets n t.v0 (to_z w64 (of_z w64 extent)) → r ≡ plane n
+  plane-is r f = f ∙ (λ i. plane_meets n t.v0 (run ρ (var 12) bs tt ins i))
 
-  xy-is : (r : Bool) {b : Bool} → Meet r (machs ρ xy) → r ≡ b → on_xy n ≡ b
-  xy-is r f g = sym (learnt ρ (Meet r) xy bs tt ins f) ∙ g
+  xy-is : (r : Bool) → Meet r (machs ρ xy) → r ≡ on_xy n
+  xy-is r f = learnt ρ (Meet r) xy bs tt ins f
 
-  yz-is : (r : Bool) {b : Bool} → Meet r (machs ρ yz) → r ≡ b → on_yz n ≡ b
-  yz-is r f g = sym (learnt ρ (Meet r) yz bs tt ins f) ∙ g
+  yz-is : (r : Bool) → Meet r (machs ρ yz) → r ≡ on_yz n
+  yz-is r f = learnt ρ (Meet r) yz bs tt ins f
 
   zx-is : (r : Bool) → Meet r (machs ρ zx) → r ≡ on_zx n
   zx-is r f = learnt ρ (Meet r) zx bs tt ins f
@@ -96,38 +85,41 @@ plane_meets-requires c =
 pub edges_meet-requires : goal.edges_meet-requires
 edges_meet-requires c = let (h, l) = c.requires in let e = c.normal-n.ensures in bounded (ρ h l e) xy bs edges_bounds tt (ins h l e)
 
-pub edges_meet-requires-2 : goal.edges_meet-requires-2
-edges_meet-requires-2 c = let (h, l) = c.requires in let e = c.normal-n.ensures in bounded (ρ h l e) yz bs edges_bounds tt (ins h l e)
+pub edges_meet-requires-then-edges_meet : goal.edges_meet-requires-then-edges_meet
+edges_meet-requires-then-edges_meet c = let (h, l) = c.requires in let e = c.normal-n.ensures in bounded (ρ h l e) yz bs edges_bounds tt (ins h l e)
 
-pub edges_meet-requires-3 : goal.edges_meet-requires-3
-edges_meet-requires-3 c = let (h, l) = c.requires in let e = c.normal-n.ensures in bounded (ρ h l e) zx bs edges_bounds tt (ins h l e)
+pub edges_meet-requires-then-edges_meet-2 : goal.edges_meet-requires-then-edges_meet-2
+edges_meet-requires-then-edges_meet-2 c = let (h, l) = c.requires in let e = c.normal-n.ensures in bounded (ρ h l e) zx bs edges_bounds tt (ins h l e)
 
-pub returns-then-not-plane_meets : goal.returns-then-not-plane_meets
-returns-then-not-plane_meets c =
+-- of the plane and xy; and of yz too
+two : (c : Joined-plane_meets) → let (h, l) = c.requires in let e = c.normal-n.ensures in let n = c.normal-n.result in c.if-plane_meets.value ≡ (plane h l e n && on_xy h l e n)
+two c =
     let (h, l) = c.requires in
     let e = c.normal-n.ensures in
-    whole h l e (stop1 h l e (plane-is h l e c.plane_meets.result c.plane_meets.ensures c.if-not-plane_meets.true))
+    let p = plane-is h l e c.plane_meets.result c.plane_meets.ensures in
+    elim c.if-plane_meets.branch [
+      | then-plane_meets w ↦ w.value-is ∙ and_then p w.if-plane_meets.true (xy-is h l e w.edges_meet.result w.edges_meet.ensures)
+      | else-plane_meets w ↦ w.value-is ∙ and_else (on_xy h l e c.normal-n.result) p w.if-plane_meets.false
+    ]
 
-pub returns-then-not-edges_meet : goal.returns-then-not-edges_meet
-returns-then-not-edges_meet c =
+three : (c : Joined-edges_meet) → let (h, l) = c.requires in let e = c.normal-n.ensures in let n = c.normal-n.result in c.if-edges_meet.value ≡ (plane h l e n && on_xy h l e n && on_yz h l e n)
+three c =
     let (h, l) = c.requires in
     let e = c.normal-n.ensures in
-    whole h l e (stop2 h l e (plane-is h l e c.plane_meets.result c.plane_meets.ensures c.if-not-plane_meets.false)
-    (xy-is h l e c.edges_meet.result c.edges_meet.ensures c.if-not-edges_meet.true))
+    elim c.if-edges_meet.branch [
+      | then-edges_meet w ↦ let r = w.edges_meet-then-edges_meet in w.value-is ∙ and_then (two c.before) w.if-edges_meet.true (yz-is h l e r.result r.ensures)
+      | else-edges_meet w ↦ w.value-is ∙ and_else (on_yz h l e c.normal-n.result) (two c.before) w.if-edges_meet.false
+    ]
 
-pub returns-then-not-edges_meet-2 : goal.returns-then-not-edges_meet-2
-returns-then-not-edges_meet-2 c =
+pub returns-then-edges_meet-2 : goal.returns-then-edges_meet-2
+returns-then-edges_meet-2 c =
     let (h, l) = c.requires in
     let e = c.normal-n.ensures in
-    whole h l e (stop3 h l e (plane-is h l e c.plane_meets.result c.plane_meets.ensures c.if-not-plane_meets.false)
-    (xy-is h l e c.edges_meet.result c.edges_meet.ensures c.if-not-edges_meet.false)
-    (yz-is h l e c.edges_meet-2.result c.edges_meet-2.ensures c.if-not-edges_meet-2.true))
+    let r = c.edges_meet-then-edges_meet-2 in
+    whole h l e (and_then (three c.before.before.before.before.before.before.before.before.before) c.if-edges_meet-2.true (zx-is h l e r.result r.ensures))
 
-pub returns : goal.returns
-returns c =
+pub returns-else-edges_meet-2 : goal.returns-else-edges_meet-2
+returns-else-edges_meet-2 c =
     let (h, l) = c.requires in
     let e = c.normal-n.ensures in
-    whole h l e (zx-is h l e c.edges_meet-3.result c.edges_meet-3.ensures
-    ∙ last h l e (plane-is h l e c.plane_meets.result c.plane_meets.ensures c.if-not-plane_meets.false)
-    (xy-is h l e c.edges_meet.result c.edges_meet.ensures c.if-not-edges_meet.false)
-    (yz-is h l e c.edges_meet-2.result c.edges_meet-2.ensures c.if-not-edges_meet-2.false))
+    whole h l e (and_else (on_zx h l e c.normal-n.result) (three c.before) c.if-edges_meet-2.false)

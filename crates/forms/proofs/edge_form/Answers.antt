@@ -13,7 +13,7 @@ use Rattle.integers.proofs.MinMax.{within-max}
 use Rattle.geometry.specs.Bounds.{difference_max, each}
 use Rattle.overlap.specs.Rule.{turned}
 use Rattle.forms.specs.Triangle.{edge_form, edge_bounds}
-use Rattle.forms.proofs.Sizes.{within-turned, within-zero}
+use Rattle.forms.proofs.Sizes.{max-swap, within-turned, within-zero}
 use Rattle.forms.proofs.edge_form.Goals as goal
 use Rattle.forms.proofs.edge_form.Goals.{After-max-up_a, After-max-up_b, After-turned-ma, After-turned-mb, Start}
 
@@ -42,10 +42,10 @@ ins-m c =
 
 -- how far a square reaches along m on each axis, m, and the parameters
 up-a : (c : After-max-up_a) → c.max-up_a.result ≡ int_max (pos 0) c.before.before.turned-ma.result
-up-a c = c.max-up_a.ensures ∙ ap (int_max (pos 0)) (run (ρm c.before) (var 0) bm tt (ins-m c.before))
+up-a c = c.max-up_a.ensures.value ∙ ap (λ (z : ℤ). int_max z (pos 0)) (run (ρm c.before) (var 0) bm tt (ins-m c.before)) ∙ max-swap c.turned-ma.result (pos 0)
 
 up-b : (c : After-max-up_b) → c.max-up_b.result ≡ int_max (pos 0) c.before.before.turned-mb.result
-up-b c = let m = c.before.before in c.max-up_b.ensures ∙ ap (int_max (pos 0)) (run (ρm m) (var 1) bm tt (ins-m m))
+up-b c = let m = c.before.before in c.max-up_b.ensures.value ∙ ap (λ (z : ℤ). int_max z (pos 0)) (run (ρm m) (var 1) bm tt (ins-m m)) ∙ max-swap c.turned-mb.result (pos 0)
 
 abbrev ρr : After-max-up_b → List ℤ
 ρr c = c.before.max-up_a.result ∷ c.max-up_b.result ∷ ρm c.before.before
