@@ -4,7 +4,6 @@
 ghost use Rattle.std.specs.Prelude.{◌≡◌, ◌^◌, ◌<◌, pos, nat_abs, length, get_or, ◌≤ℤ◌, ◌<ℤ◌};
 ghost use Rattle.integers.specs.Within.{Within};
 ghost use Rattle.std.specs.Int.{int_min, int_max};
-ghost use Rattle.integers.specs.Inner.{Floor};
 
 // The lesser of two numbers. A call keeps the branch out of the caller's proof.
 pub fn min(a: i64, b: i64) -> i64
@@ -18,16 +17,6 @@ pub fn max(a: i64, b: i64) -> i64
     ensures { result ≡ int_max a b }
 {
     a.max(b)
-}
-
-// x / d rounded down, where `/` rounds toward 0: the place of x among steps of size d.
-pub fn floor_div(x: i64, d: i64) -> i64
-    requires { pos 0 <ℤ d }
-    ensures { Floor x d result }
-{
-    let q = x / d;
-    let m = x % d;
-    if m < 0 { q - 1 } else { q }
 }
 
 // A number that is not negative, as an index.

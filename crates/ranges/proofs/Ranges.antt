@@ -72,28 +72,28 @@ module _ (least greatest o e d : ℤ) (positive : pos 0 <ℤ e) where
 
   -- The range starts at −p or at 0, and ends after q or at n, where that is not before 0.
   module _ (n : ℕ) {p q : ℤ} {first end : ℕ} (before : Floor (o +ℤ d -ℤ least) e p) (last : Floor (greatest -ℤ o) e q)
-      (end_is : pos end ≡ int_max (pos 0) (int_min (q +ℤ pos 1) (pos n)))
-      (first-is : pos first ≡ int_min (int_max (pos 0) (neg_ℤ p)) (pos end)) where
+      (end_is : pos end ≡ int_max (int_min (q +ℤ pos 1) (pos n)) (pos 0))
+      (first-is : pos first ≡ int_min (int_max (neg_ℤ p) (pos 0)) (pos end)) where
     -- the cells below the end
     upto : (i : ℕ) → i < n → ltb i end ≡ begins_by greatest o e i
     upto i h =
         same_truth (ltb i end) (begins_by greatest o e i)
-        (λ t. true-le _ _ (→high last i (omega (zarith, ltb-true i end t, max! (pos 0) (int_min (q +ℤ pos 1) (pos n)), min! (q +ℤ pos 1) (pos n), +! q (pos 1)))))
+        (λ t. true-le _ _ (→high last i (omega (zarith, ltb-true i end t, max! (int_min (q +ℤ pos 1) (pos n)) (pos 0), min! (q +ℤ pos 1) (pos n), +! q (pos 1)))))
         (λ t.
         let l = high→ last i (le-true _ _ t) in
-        lt-ltb i end (omega (zarith, max! (pos 0) (int_min (q +ℤ pos 1) (pos n)), min! (q +ℤ pos 1) (pos n), +! q (pos 1))))
+        lt-ltb i end (omega (zarith, max! (int_min (q +ℤ pos 1) (pos n)) (pos 0), min! (q +ℤ pos 1) (pos n), +! q (pos 1))))
 
     -- of these, the cells from the first on
     from : (i : ℕ) → i < end → leb first i ≡ ends_from least o e d i
     from i h =
         same_truth (leb first i) (ends_from least o e d i)
-        (λ t. true-le _ _ (→low before i (omega (zarith, leb-true first i t, min! (int_max (pos 0) (neg_ℤ p)) (pos end), max! (pos 0) (neg_ℤ p)))))
-        (λ t. let l = low→ before i (le-true _ _ t) in le-leb first i (omega (zarith, min! (int_max (pos 0) (neg_ℤ p)) (pos end), max! (pos 0) (neg_ℤ p))))
+        (λ t. true-le _ _ (→low before i (omega (zarith, leb-true first i t, min! (int_max (neg_ℤ p) (pos 0)) (pos end), max! (neg_ℤ p) (pos 0)))))
+        (λ t. let l = low→ before i (le-true _ _ t) in le-leb first i (omega (zarith, min! (int_max (neg_ℤ p) (pos 0)) (pos end), max! (neg_ℤ p) (pos 0))))
 
     pub picks : Picks n (ends_from least o e d) (begins_by greatest o e) (record { first = first; end = end })
     picks = record {
-      ordered = omega (zarith, min! (int_max (pos 0) (neg_ℤ p)) (pos end));
-      within = omega (zarith, max! (pos 0) (int_min (q +ℤ pos 1) (pos n)), min! (q +ℤ pos 1) (pos n));
+      ordered = omega (zarith, min! (int_max (neg_ℤ p) (pos 0)) (pos end));
+      within = omega (zarith, max! (int_min (q +ℤ pos 1) (pos n)) (pos 0), min! (q +ℤ pos 1) (pos n));
       upto = upto;
       exact = λ i h. both (leb first i) (ltb i end) _ _ (λ t. from i (ltb-true i end t)) (upto i h);
     }

@@ -25,14 +25,13 @@ fn cell_range(
     requires { Withins range_bounds (least ∷ greatest ∷ origin ∷ step ∷ extent ∷ []) × (pos 0 <ℤ step) × (cells < 2 ^ 63) }
     ensures { Picks cells (ends_from least origin step extent) (begins_by greatest origin step) result }
 {
-    let n = integers::from_index(cells);
-    let before = integers::floor_div(origin + extent - least, step);
-    let last = integers::floor_div(greatest - origin, step);
-    let end = integers::max(0, integers::min(last + 1, n));
-    let first = integers::min(integers::max(0, -before), end);
+    let before = (origin + extent - least).div_euclid(step);
+    let last = (greatest - origin).div_euclid(step);
+    let end = (last + 1).min(cells as i64).max(0);
+    let first = (-before).max(0).min(end);
     CellRange {
-        first: integers::to_index(first),
-        end: integers::to_index(end),
+        first: first as usize,
+        end: end as usize,
     }
 }
 
@@ -49,8 +48,8 @@ fn axis_range(
     requires { Withins axis_bounds (a0 ∷ a1 ∷ a2 ∷ origin ∷ step ∷ extent ∷ []) × (pos 0 <ℤ step) × (cells < 2 ^ 63) }
     ensures { Picks cells (ends_from (int_min (int_min a0 a1) a2) origin step extent) (begins_by (int_max (int_max a0 a1) a2) origin step) result }
 {
-    let least = integers::min(integers::min(a0, a1), a2);
-    let greatest = integers::max(integers::max(a0, a1), a2);
+    let least = a0.min(a1).min(a2);
+    let greatest = a0.max(a1).max(a2);
     cell_range(least, greatest, origin, step, extent, cells)
 }
 

@@ -25,15 +25,15 @@ least-is : (c : After-min-least) → let a = c.before.before.args in c.min-least
 least-is c =
     let s = c.before.before in
     let m = c.before.min in
-    let two = learnt (ρ s) (Of int_min m.result) (var 0 ∷ var 1 ∷ []) axis_bounds tt s.requires.0 m.ensures in
-    c.min-least.ensures ∙ ap₂ int_min (back w64 m.type_inv ∙ two) (run (ρ s) (var 2) axis_bounds tt s.requires.0)
+    let two = learnt (ρ s) (Of int_min m.result) (var 0 ∷ var 1 ∷ []) axis_bounds tt s.requires.0 m.ensures.value in
+    c.min-least.ensures.value ∙ ap₂ int_min (back w64 m.type_inv ∙ two) (run (ρ s) (var 2) axis_bounds tt s.requires.0)
 
 greatest-is : (c : After-max-greatest) → let a = c.before.before.before.before.args in c.max-greatest.result ≡ int_max (int_max a.a0 a.a1) a.a2
 greatest-is c =
     let s = c.before.before.before.before in
     let m = c.before.max in
-    let two = learnt (ρ s) (Of int_max m.result) (var 0 ∷ var 1 ∷ []) axis_bounds tt s.requires.0 m.ensures in
-    c.max-greatest.ensures ∙ ap₂ int_max (back w64 m.type_inv ∙ two) (run (ρ s) (var 2) axis_bounds tt s.requires.0)
+    let two = learnt (ρ s) (Of int_max m.result) (var 0 ∷ var 1 ∷ []) axis_bounds tt s.requires.0 m.ensures.value in
+    c.max-greatest.ensures.value ∙ ap₂ int_max (back w64 m.type_inv ∙ two) (run (ρ s) (var 2) axis_bounds tt s.requires.0)
 
 -- the arguments of `cell_range`
 abbrev σ : After-max-greatest → List ℤ
