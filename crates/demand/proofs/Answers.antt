@@ -24,7 +24,8 @@ use Rattle.frame.specs.File.{header_of}
 use Rattle.frame.specs.Questions.{file_questions, checked}
 use Rattle.frame.proofs.Accepted.{questions-refused, questions-passed, header_is}
 use Rattle.fill.specs.Fill.{grid_of, map_question, fill_questions}
-use Rattle.demand.specs.Route.{point_count, points_of, Finding, tested, point_question, point_questions, route_questions, route_answer}
+use Rattle.demand.specs.Route.{point_count, points_of, tested, point_question, point_questions, route_questions, route_answer}
+use Rattle.demand.specs.declared.Finding.{Finding}
 use Rattle.demand.specs.Inner.{last_questions, ReadyRoute}
 use Rattle.demand.proofs.Points.{points-length}
 

@@ -10,6 +10,7 @@ use mathlib.Core.Bool.{Bool, true, false, ◌||◌, and-eq-true_iff}
 use mathlib.Core.List.{List, [], ◌∷◌}
 use mathlib.Core.Logic.{◌⊎◌, inl, inr}
 use mathlib.Core.Path.{◌≡◌, refl, sym, ap, ◌∙◌, subst}
+use Rattle.std.specs.Prelude.{Option}
 use Prim.Native.Nat.{ℕ, ◌+◌, ◌<◌}
 use native.Mathlib.Omega.{arith}
 use lib.IntN.{ℤ}
@@ -33,9 +34,10 @@ use Rattle.frame.specs.File.{header_of}
 use Rattle.frame.proofs.Accepted.{accepted}
 use Rattle.fill.specs.Fill.{grid_of, obstacles, any_of, filled_by, filled_in}
 use Rattle.fill.proofs.Words.{rule-filled}
-use Rattle.touch.specs.declared.Found.{Found}
 use Rattle.first_hit.specs.FirstHit.{filled_and_touched, first_hit}
-use Rattle.demand.specs.Route.{Finding, free, blocked, points_of, point_at, leg_count, tested, route_answer}
+use Rattle.demand.specs.Route.{points_of, point_at, leg_count, tested, route_answer}
+use Rattle.demand.specs.declared.Finding.{Finding}
+use Rattle.demand.specs.declared.Finding.TheVariants.{Free, Blocked}
 use Rattle.demand.specs.Demand.{SomeOf, IsBlocked, BothReach, Demand3, LeftByFill, DemandOf, FirstOf}
 use Rattle.demand.proofs.Answers.{last-passed, answer-given}
 use Rattle.demand.proofs.First.{legs-free, free-legs, blocked-leg}
@@ -67,11 +69,11 @@ module _ {A : Type 0} (p : A → Bool) (P : A → Type 0) where
 abbrev pub hit : (filled : ℕ → Bool) → Grid → List Point → (m n : ℕ) → Bool
 hit filled g ps m n = filled_and_touched filled g (point_at ps m) (point_at ps (m + 1)) n
 
-abbrev on_leg : (filled : ℕ → Bool) → Grid → List Point → ℕ → Found
+abbrev on_leg : (filled : ℕ → Bool) → Grid → List Point → ℕ → Option ℕ
 on_leg filled g ps m = first_hit filled g (point_at ps m) (point_at ps (m + 1))
 
 -- The leg and the cell that a finding names, and the legs before that one.
-module _ (filled : ℕ → Bool) (g : Grid) (ps : List Point) (m n : ℕ) (e : tested filled g ps ≡ blocked m n) where
+module _ (filled : ℕ → Bool) (g : Grid) (ps : List Point) (m n : ℕ) (e : tested filled g ps ≡ Blocked m n) where
   pub blocked-in : (m < leg_count ps) × (n < cell_count g) × (hit filled g ps m n ≡ true)
   unfolding tested
   blocked-in =
@@ -84,9 +86,9 @@ module _ (filled : ℕ → Bool) (g : Grid) (ps : List Point) (m n : ℕ) (e : t
   leg-first i k li lk = none-hit filled g (point_at ps i) (point_at ps (i + 1)) ((blocked-leg (on_leg filled g ps) (leg_count ps) m n e).2 i li) k lk
 
 -- (c)
-free-or-blocked : (r : Finding) → (r ≡ free) ⊎ IsBlocked r
-free-or-blocked free = inl refl
-free-or-blocked (blocked m n) = inr (record { leg = m; cell = n; is = refl })
+free-or-blocked : (r : Finding) → (r ≡ Free) ⊎ IsBlocked r
+free-or-blocked Free = inl refl
+free-or-blocked (Blocked m n) = inr (record { leg = m; cell = n; is = refl })
 
 -- ---- a grid, its triangles and the points of a route
 module _ (g : Grid) (ts : List Triangle) (ps : List Point) (filled : ℕ → Bool) (proper : Proper g)
@@ -111,13 +113,13 @@ module _ (g : Grid) (ts : List Triangle) (ps : List Point) (filled : ℕ → Boo
       )
 
   -- (a)
-  free-none : tested filled g ps ≡ free → (m n : ℕ) → BothReach g ts ps m n → ⊥
+  free-none : tested filled g ps ≡ Free → (m n : ℕ) → BothReach g ts ps m n → ⊥
   unfolding tested
   free-none e m n b =
       apart (both-reached b)
       (none-hit filled g (point_at ps m) (point_at ps (m + 1)) (free-legs (on_leg filled g ps) (leg_count ps) e m b.leg-in) n b.cell_in)
 
-  none_free : ((m n : ℕ) → BothReach g ts ps m n → ⊥) → tested filled g ps ≡ free
+  none_free : ((m n : ℕ) → BothReach g ts ps m n → ⊥) → tested filled g ps ≡ Free
   unfolding tested
   none_free never =
       legs-free (on_leg filled g ps) (leg_count ps)
@@ -146,7 +148,7 @@ module _ (g : Grid) (ts : List Triangle) (ps : List Point) (filled : ℕ → Boo
   common-reach lm never (u ∷ us) among (inr rest) = common-reach lm never us (λ n r. among n (inr r)) rest
 
   -- (d)
-  blocked-both : (m n : ℕ) → tested filled g ps ≡ blocked m n → BothReach g ts ps m n
+  blocked-both : (m n : ℕ) → tested filled g ps ≡ Blocked m n → BothReach g ts ps m n
   blocked-both m n e = let (lm, ln, full) = blocked-in filled g ps m n e in both-reach m n lm ln full
 
   pub demand-grid : Demand3 g ts ps (tested filled g ps)

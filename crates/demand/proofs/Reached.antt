@@ -28,11 +28,12 @@ use Rattle.entry.specs.Entry.{earlier}
 use Rattle.entry.specs.Inner.{AtMost, Positive, share, LeastFraction}
 use Rattle.entry.proofs.Fractions.{at-most-trans, earlier-trans}
 use Rattle.entry.proofs.Least.{entry-positive, entry-least}
-use Rattle.touch.specs.declared.Found.TheVariants.{Cell, Nothing}
+use Rattle.std.specs.Prelude.{Some, None}
 use Rattle.first_hit.specs.FirstHit.{filled_and_touched, entry_of_cell, first_hit}
 use Rattle.first_hit.specs.Inner.{IsFirst}
 use Rattle.first_hit.proofs.Nearest.{found_first, none_found, found_none}
-use Rattle.demand.specs.Route.{blocked, point_at, leg_count, tested}
+use Rattle.demand.specs.Route.{point_at, leg_count, tested}
+use Rattle.demand.specs.declared.Finding.TheVariants.{Blocked}
 use Rattle.demand.specs.Demand.{ReachedFirst}
 use Rattle.demand.proofs.First.{blocked-leg}
 
@@ -67,18 +68,18 @@ module _ (filled : ℕ → Bool) (g : Grid) (a b : Point) where
   positive : (n : ℕ) → Positive (entry_of_cell g a b n)
   positive n = entry-positive a b (corner_of g n) (cube g.edge)
 
-  hit-first : (n : ℕ) → first_hit filled g a b ≡ Cell n → IsFirst (filled_and_touched filled g a b) (entry_of_cell g a b) (cell_count g) n
+  hit-first : (n : ℕ) → first_hit filled g a b ≡ Some n → IsFirst (filled_and_touched filled g a b) (entry_of_cell g a b) (cell_count g) n
   unfolding first_hit
   hit-first n e = found_first (filled_and_touched filled g a b) (entry_of_cell g a b) positive (cell_count g) n e
 
-  pub hit-has : (n : ℕ) → first_hit filled g a b ≡ Cell n → (n < cell_count g) × (filled_and_touched filled g a b n ≡ true)
+  pub hit-has : (n : ℕ) → first_hit filled g a b ≡ Some n → (n < cell_count g) × (filled_and_touched filled g a b n ≡ true)
   hit-has n e = let h = hit-first n e in (h.below, h.has)
 
-  pub none-hit : first_hit filled g a b ≡ Nothing → (n : ℕ) → n < cell_count g → filled_and_touched filled g a b n ≡ false
+  pub none-hit : first_hit filled g a b ≡ None → (n : ℕ) → n < cell_count g → filled_and_touched filled g a b n ≡ false
   unfolding first_hit
   none-hit e = none_found (filled_and_touched filled g a b) (entry_of_cell g a b) positive (cell_count g) e
 
-  pub hit-none : ((n : ℕ) → n < cell_count g → filled_and_touched filled g a b n ≡ false) → first_hit filled g a b ≡ Nothing
+  pub hit-none : ((n : ℕ) → n < cell_count g → filled_and_touched filled g a b n ≡ false) → first_hit filled g a b ≡ None
   unfolding first_hit
   hit-none h = found_none (filled_and_touched filled g a b) (entry_of_cell g a b) positive (cell_count g) h
 
@@ -96,7 +97,7 @@ module _ (filled : ℕ → Bool) (g : Grid) (a b : Point) where
     touched : (n : ℕ) → filled n ≡ true → Reached n → filled_and_touched filled g a b n ≡ true
     touched n e r = (and-eq-true_iff (filled n) (overlaps_cell g (lattice_of g) (leg a b) n)).1 (e, leg-reached (corner_of g n) g.edge size a b r)
 
-    hit-reached : (n : ℕ) → first_hit filled g a b ≡ Cell n → ReachedFirst filled g a b n
+    hit-reached : (n : ℕ) → first_hit filled g a b ≡ Some n → ReachedFirst filled g a b n
     hit-reached n e =
         let h = hit-first n e in
         let (full, over) = (and-eq-true_iff (filled n) (overlaps_cell g (lattice_of g) (leg a b) n)).0 h.has in
@@ -114,7 +115,7 @@ module _ (filled : ℕ → Bool) (g : Grid) (a b : Point) where
         }
 
 -- ---- the cell that a finding names
-pub reached-first : (filled : ℕ → Bool) (g : Grid) (ps : List Point) → pos 0 ≤ℤ g.edge → (m n : ℕ) → tested filled g ps ≡ blocked m n
+pub reached-first : (filled : ℕ → Bool) (g : Grid) (ps : List Point) → pos 0 ≤ℤ g.edge → (m n : ℕ) → tested filled g ps ≡ Blocked m n
     → ReachedFirst filled g (point_at ps m) (point_at ps (m + 1)) n
 unfolding tested
 reached-first filled g ps size m n e =

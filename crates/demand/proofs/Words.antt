@@ -25,7 +25,9 @@ use Rattle.map.specs.Map.{is_filled}
 use Rattle.reach.specs.Reaches.{Reaches, LegReaches, CommonPoint}
 use Rattle.reach.proofs.Common.{corner-common}
 use Rattle.fill.specs.Fill.{grid_of, obstacles, filling, filled_bytes}
-use Rattle.demand.specs.Route.{points_of, point_at, leg_count, Finding, free, blocked, route_answer}
+use Rattle.demand.specs.Route.{points_of, point_at, leg_count, route_answer}
+use Rattle.demand.specs.declared.Finding.{Finding}
+use Rattle.demand.specs.declared.Finding.TheVariants.{Free, Blocked}
 use Rattle.demand.specs.Demand.{SomeOf, Meets, Demand3, LeftByFill, DemandOf, ReachedFirst, FirstOf}
 use Rattle.demand.proofs.Demand.{demand-3}
 
@@ -65,23 +67,23 @@ module _ (s old : List ℕ) (count : ℕ) (ns : List ℤ) (r : Answer Finding) (
   abbrev SteelAt : (p : Point) → Type 0
   SteelAt p = SomeOf (λ t. Reaches t p (grid_of s).edge) (obstacles s)
 
-  pub free-none : r ≡ gives free → (m n : ℕ) → m < leg_count (points_of ns) → n < cell_count (grid_of s) → LegAt m (corner_of (grid_of s) n) → SteelAt (corner_of (grid_of s) n) → ⊥
-  free-none is m n l c leg steel = (claim free is).exactly.0 refl m n (record { leg-in = l; cell_in = c; leg = leg; triangle = steel })
+  pub free-none : r ≡ gives Free → (m n : ℕ) → m < leg_count (points_of ns) → n < cell_count (grid_of s) → LegAt m (corner_of (grid_of s) n) → SteelAt (corner_of (grid_of s) n) → ⊥
+  free-none is m n l c leg steel = (claim Free is).exactly.0 refl m n (record { leg-in = l; cell_in = c; leg = leg; triangle = steel })
 
   -- and back: where no leg and no triangle reach one cell, it is "free"
   pub none_free : (f : Finding) → r ≡ gives f
-      → ((m n : ℕ) → m < leg_count (points_of ns) → n < cell_count (grid_of s) → LegAt m (corner_of (grid_of s) n) → SteelAt (corner_of (grid_of s) n) → ⊥) → f ≡ free
+      → ((m n : ℕ) → m < leg_count (points_of ns) → n < cell_count (grid_of s) → LegAt m (corner_of (grid_of s) n) → SteelAt (corner_of (grid_of s) n) → ⊥) → f ≡ Free
   none_free f is none = (claim f is).exactly.1 (λ m n b. none m n b.leg-in b.cell_in b.leg b.triangle)
 
-  pub free-apart : r ≡ gives free → (m : ℕ) → m < leg_count (points_of ns)
+  pub free-apart : r ≡ gives Free → (m : ℕ) → m < leg_count (points_of ns)
       → SomeOf (λ t. CommonPoint (point_at (points_of ns) m) (point_at (points_of ns) (m + 1)) t) (obstacles s) → ⊥
-  free-apart is m l c = (claim free is).apart refl (meets-by (grid_of s) (obstacles s) (points_of ns) m l c)
+  free-apart is m l c = (claim Free is).apart refl (meets-by (grid_of s) (obstacles s) (points_of ns) m l c)
 
-  pub blocked-shares : (m n : ℕ) → r ≡ gives (blocked m n)
+  pub blocked-shares : (m n : ℕ) → r ≡ gives (Blocked m n)
       → (m < leg_count (points_of ns)) × (n < cell_count (grid_of s)) × LegAt m (corner_of (grid_of s) n) × SteelAt (corner_of (grid_of s) n)
-  blocked-shares m n is = let b = (claim (blocked m n) is).named m n refl in (b.leg-in, b.cell_in, b.leg, b.triangle)
+  blocked-shares m n is = let b = (claim (Blocked m n) is).named m n refl in (b.leg-in, b.cell_in, b.leg, b.triangle)
 
-pub blocked-first : (s m : List ℕ) (ns : List ℤ) (r : Answer Finding) → FirstOf s m ns r → (i n : ℕ) → r ≡ gives (blocked i n)
+pub blocked-first : (s m : List ℕ) (ns : List ℤ) (r : Answer Finding) → FirstOf s m ns r → (i n : ℕ) → r ≡ gives (Blocked i n)
     → ReachedFirst (is_filled m) (grid_of s) (point_at (points_of ns) i) (point_at (points_of ns) (i + 1)) n
 blocked-first s m ns r f = f
 

@@ -9,7 +9,9 @@ use Rattle.grid.specs.Grid.{cell_count, corner_of}
 use Rattle.map.specs.Map.{is_filled}
 use Rattle.reach.specs.Reaches.{Reaches, LegReaches, CommonPoint}
 use Rattle.fill.specs.Fill.{grid_of, obstacles, filling, filled_bytes}
-use Rattle.demand.specs.Route.{points_of, point_at, leg_count, Finding, free, blocked}
+use Rattle.demand.specs.Route.{points_of, point_at, leg_count}
+use Rattle.demand.specs.declared.Finding.{Finding}
+use Rattle.demand.specs.declared.Finding.TheVariants.{Free, Blocked}
 
 -- Some item of the list has the property.
 abbrev pub SomeOf : {A : Type 0} → (A → Type 0) → List A → Type 0
@@ -20,7 +22,7 @@ SomeOf P (x ∷ xs) = P x ⊎ SomeOf P xs
 pub record IsBlocked (r : Finding) : Type 0 where
   pub leg : ℕ
   pub cell : ℕ
-  pub is : r ≡ blocked leg cell
+  pub is : r ≡ Blocked leg cell
 
 -- ---- a grid, its triangles and the points of a route
 module _ (g : Grid) (ts : List Triangle) (ps : List Point) where
@@ -43,10 +45,10 @@ module _ (g : Grid) (ts : List Triangle) (ps : List Point) where
   --   (c) otherwise it is "blocked", with some leg and some cell;
   --   (d) the leg named and some triangle both reach the cell named.
   pub record Demand3 (r : Finding) : Type 0 where
-    pub exactly : (r ≡ free) ↔ ((m n : ℕ) → BothReach m n → ⊥)
-    pub apart : r ≡ free → Meets → ⊥
-    pub otherwise : (r ≡ free) ⊎ IsBlocked r
-    pub named : (m n : ℕ) → r ≡ blocked m n → BothReach m n
+    pub exactly : (r ≡ Free) ↔ ((m n : ℕ) → BothReach m n → ⊥)
+    pub apart : r ≡ Free → Meets → ⊥
+    pub otherwise : (r ≡ Free) ⊎ IsBlocked r
+    pub named : (m n : ℕ) → r ≡ Blocked m n → BothReach m n
 
 -- ---- a file, a map and the numbers of a route
 -- The premise: the map's bytes are those that an accepted fill with this file leaves there, whatever bytes it found.
@@ -79,4 +81,4 @@ pub record ReachedFirst (filled : ℕ → Bool) (g : Grid) (a b : Point) (n : �
 -- map may hold any bytes, whatever left them there.
 abbrev pub FirstOf : (file map : List ℕ) (numbers : List ℤ) → Answer Finding → Type 0
 FirstOf s m ns r =
-    (i n : ℕ) → r ≡ gives (blocked i n) → ReachedFirst (is_filled m) (grid_of s) (point_at (points_of ns) i) (point_at (points_of ns) (i + 1)) n
+    (i n : ℕ) → r ≡ gives (Blocked i n) → ReachedFirst (is_filled m) (grid_of s) (point_at (points_of ns) i) (point_at (points_of ns) (i + 1)) n

@@ -1,5 +1,5 @@
 -- Routes: their points and legs, the questions put to a route test, and what it answers. Definitions only.
-use Rattle.std.specs.Prelude.{Bool, ◌&&◌, List, ◌∷◌, ◌++◌, ℕ, zero, suc, ◌+◌, ◌-◌, ◌*◌, ◌/◌, ◌%◌, leb, eqb, ℤ, pos, length, get_or}
+use Rattle.std.specs.Prelude.{Bool, ◌&&◌, List, ◌∷◌, ◌++◌, ℕ, zero, suc, ◌+◌, ◌-◌, ◌*◌, ◌/◌, ◌%◌, leb, eqb, ℤ, pos, length, get_or, Option, Some, None}
 use Rattle.geometry.specs.declared.Point.{Point}
 use Rattle.geometry.specs.Geometry.{point}
 use Rattle.refusal.specs.Limit.{Answer}
@@ -9,9 +9,9 @@ use Rattle.grid.specs.Grid.{inside}
 use Rattle.map.specs.Map.{is_filled, tabulate}
 use Rattle.layout.specs.Values.{point_from}
 use Rattle.fill.specs.Fill.{grid_of, fill_questions}
-use Rattle.touch.specs.declared.Found.{Found}
-use Rattle.touch.specs.declared.Found.TheVariants.{Cell, Nothing}
 use Rattle.first_hit.specs.FirstHit.{first_hit}
+use Rattle.demand.specs.declared.Finding.{Finding}
+use Rattle.demand.specs.declared.Finding.TheVariants.{Free, Blocked}
 
 -- ---- a route (polyline): a list of points, each three numbers, x, y and z in turn
 abbrev pub point_count : List ℤ → ℕ
@@ -29,15 +29,10 @@ abbrev pub leg_count : List Point → ℕ
 leg_count ps = length ps - 1
 
 -- ---- what is found
--- A route is free; or it is blocked, by a leg, at a cell.
-pub data Finding : Type 0 where
-  free : Finding
-  blocked : (leg cell : ℕ) → Finding
-
 -- Of n legs, the first that is blocked, and its cell: the one found before, and else the last where it has one.
-unfoldable pub first_blocked : (ℕ → Found) → ℕ → Finding
-first_blocked cell zero = free
-first_blocked cell (suc m) = elim (first_blocked cell m) [ blocked i n ↦ blocked i n | free ↦ elim (cell m) [ Cell n ↦ blocked m n | Nothing ↦ free ] ]
+unfoldable pub first_blocked : (ℕ → Option ℕ) → ℕ → Finding
+first_blocked cell zero = Free
+first_blocked cell (suc m) = elim (first_blocked cell m) [ Blocked i n ↦ Blocked i n | Free ↦ elim (cell m) [ Some n ↦ Blocked m n | None ↦ Free ] ]
 
 -- A route is free when no leg touches a filled cell. Otherwise it is blocked by the first such leg, at the filled cell that this leg reaches first.
 unfoldable pub tested : (filled : ℕ → Bool) → Grid → List Point → Finding

@@ -1,15 +1,19 @@
 -- The worked examples of document 01: the starred rows of its tables, as printed; and the route of request 2, which starts in cell 3 and names it. Definitions
 -- only.
 -- A grid of 2 × 2 × 2 cells, edge 10, origin 0, one triangle, kind 0.
-use Rattle.std.specs.Prelude.{List, [], ◌∷◌, ◌++◌, ℕ, ℤ, pos, length}
+use Rattle.std.specs.Prelude.{List, [], ◌∷◌, ◌++◌, ℕ, ℤ, pos, length, Some}
 use Prim.Native.String.{String}
 use Rattle.geometry.specs.declared.Point.{Point}
 use Rattle.geometry.specs.Geometry.{point, triangle}
 use Rattle.layout.specs.declared.Header.{Header}
 use Rattle.refusal.specs.Limit.{Answer, gives}
-use Rattle.frame.specs.Questions.{Contents, with_record, reading}
+use Rattle.layout.specs.declared.Record.{Record}
+use Rattle.frame.specs.declared.Reading.{Reading}
+use Rattle.frame.specs.Questions.{reading}
 use Rattle.fill.specs.Fill.{filling, filled_bytes}
-use Rattle.demand.specs.Route.{Finding, free, blocked, route_answer}
+use Rattle.demand.specs.Route.{route_answer}
+use Rattle.demand.specs.declared.Finding.{Finding}
+use Rattle.demand.specs.declared.Finding.TheVariants.{Free, Blocked}
 
 -- A route of two points, and what a test of it says.
 pub record RouteRow : Type 0 where
@@ -24,7 +28,7 @@ from x y z x' y' z' f = record { numbers = pos x ∷ pos y ∷ pos z ∷ pos x' 
 pub record Row : Type 0 where
   pub letter : String
   pub bytes : List ℕ
-  pub contents : Answer Contents
+  pub contents : Answer Reading
   pub count : Answer ℕ
   pub map : List ℕ
   pub routes : List RouteRow
@@ -42,10 +46,11 @@ values = record { version = 1; grid = record { nx = 2; ny = 2; nz = 2; edge = po
 -- A row from its corners, the bytes of its record, the number of filled cells, its map, and routes. The byte behind the map is kept.
 abbrev row : String → (v0 v1 v2 : Point) → (bytes : List ℕ) → (count map : ℕ) → List RouteRow → Row
 row l v0 v1 v2 b n m rs =
+    let r : Record = record { kind = 0; triangle = triangle v0 v1 v2 } in
     record {
       letter = l;
       bytes = b;
-      contents = gives (with_record values (record { kind = 0; triangle = triangle v0 v1 v2 }));
+      contents = gives (record { header = values; found = Some r });
       count = gives n;
       map = m ∷ 0x55 ∷ [];
       routes = rs;
@@ -67,8 +72,8 @@ rows =
     (0x00 ∷ 0x00 ∷ 0x00 ∷ 0x50 ∷ 0x00 ∷ 0x50 ∷ 0x05 ∷ 0x00 ∷ 0x14 ∷ 0x00 ∷ 0x14 ∷ 0x01 ∷ 0x40 ∷ 0x00 ∷ 0x00 ∷ 0x05 ∷ []) 4 0xf0 []
     ∷ row "g" (at 1 20 5) (at 20 20 5) (at 20 1 5)
     (0x00 ∷ 0x01 ∷ 0x00 ∷ 0x50 ∷ 0x00 ∷ 0x50 ∷ 0x05 ∷ 0x00 ∷ 0x14 ∷ 0x00 ∷ 0x14 ∷ 0x01 ∷ 0x40 ∷ 0x00 ∷ 0x40 ∷ 0x05 ∷ []) 3 0x70
-    (from 0 0 0 9 9 0 free ∷ from 0 0 0 10 10 0 (blocked 0 1) ∷ from 5 5 15 15 15 15 free
-    ∷ from 20 20 5 0 0 5 (blocked 0 3) ∷ [])
+    (from 0 0 0 9 9 0 Free ∷ from 0 0 0 10 10 0 (Blocked 0 1) ∷ from 5 5 15 15 15 15 Free
+    ∷ from 20 20 5 0 0 5 (Blocked 0 3) ∷ [])
     ∷ row "h" (at 30 0 0) (at 0 30 0) (at 0 0 30)
     (0x00 ∷ 0x1e ∷ 0x00 ∷ 0x00 ∷ 0x00 ∷ 0x00 ∷ 0x00 ∷ 0x00 ∷ 0x1e ∷ 0x00 ∷ 0x00 ∷ 0x00 ∷ 0x00 ∷ 0x00 ∷ 0x00 ∷ 0x1e ∷ []) 8 0xff []
     ∷ row "i" (at 31 0 0) (at 0 31 0) (at 0 0 31)
