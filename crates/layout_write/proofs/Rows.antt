@@ -3,10 +3,11 @@
 --     next          so number k can be put
 --     row_done      all have been put: the bytes are those of the numbers
 --     header-narrow, record-narrow   no field is too wide for a pen
+--     version1-writable              a writer can take the layout of version 1
 -- Assumes nothing.
 use mathlib.Core.Bool.{true}
 use mathlib.Core.List.{List, [], ◌∷◌}
-use mathlib.Core.Path.{◌≡◌, sym, ap, ap₂, ◌∙◌, subst}
+use mathlib.Core.Path.{◌≡◌, refl, sym, ap, ap₂, ◌∙◌, subst}
 use Prim.Native.Nat.{ℕ, zero, suc, ◌+◌, ◌*◌, ◌<◌, ◌≤◌}
 use native.Mathlib.Nat.{add-zero, add_assoc, zero-add}
 use native.Mathlib.Omega.{arith}
@@ -17,7 +18,8 @@ use lib.Seq.{take-length}
 use Rattle.bits.specs.declared.Pen.{Pen}
 use Rattle.bits.specs.Field.{bytes_of}
 use Rattle.layout.specs.declared.Layout.{Layout}
-use Rattle.layout.specs.Layout.{FieldForm, field, plain, header_fields, record_fields}
+use Rattle.layout.specs.Layout.{FieldForm, field, plain, version1, header_fields, record_fields}
+use Rattle.layout_write.specs.declared.WritableLayout.{WritableLayout}
 use Rattle.layout_write.specs.Writing.{can_hold_all, join}
 use Rattle.layout_write.specs.Put.{total, Puttable}
 use Rattle.layout_write.proofs.Held.{held-length, held_at, span, spread}
@@ -81,3 +83,6 @@ module _ (l : Layout) where
   pub record-narrow : Narrow (record_fields l)
   record-narrow =
       ((lit≤ tt, lit≤ tt), (coordinate, (coordinate, (coordinate, (coordinate, (coordinate, (coordinate, (coordinate, (coordinate, (coordinate, tt))))))))))
+
+abbrev pub version1-writable : WritableLayout
+version1-writable = record { shape = version1; header_full = refl; record_full = refl; kind_held = lit≤ tt }

@@ -23,7 +23,8 @@ use Rattle.layout.specs.Values.{header_from, header_in, reserved_in, from_record
 use Rattle.frame.specs.Questions.{extent_fits, header_questions, kind_question, questions_by}
 use Rattle.numbers.specs.Numbers.{record_numbers}
 use Rattle.layout_write.specs.Writing.{can_hold_all, join, header_bytes, record_bytes}
-use Rattle.layout_write.specs.Put.{total, WritableLayout}
+use Rattle.layout_write.specs.declared.WritableLayout.{WritableLayout}
+use Rattle.layout_write.specs.Put.{total}
 use Rattle.layout_write.proofs.Rows.{Narrow, header-narrow, record-narrow}
 use Rattle.writable.specs.Fits.{triangle_numbers, triangle_fits, header_fits}
 use Rattle.writable.proofs.All.{all_of}
@@ -41,7 +42,10 @@ bytes-again fs narrow len whole t bytes room =
     let number : join 0 fs (split fs t 0) ≡ field_at t 0 (len * 8) = join-split fs narrow 0 t 0 ∙ rw whole (omega arith) in
     ap (bytes_of len) number ∙ bytes-field t bytes len room
 
-module _ (l : Layout) (w : WritableLayout l) (s : List ℕ) (bytes : (i : ℕ) → get_or s i 0 < 256) (ok : asked (questions_by l (header_in l s) s) ≡ passed) where
+module _ (w : WritableLayout) (s : List ℕ) (bytes : (i : ℕ) → get_or s i 0 < 256) (ok : asked (questions_by w.shape (header_in w.shape s) s) ≡ passed) where
+  abbrev l : Layout
+  l = w.shape
+
   abbrev n : ℕ
   n = (header_in l s).count
 
@@ -86,7 +90,7 @@ module _ (l : Layout) (w : WritableLayout l) (s : List ℕ) (bytes : (i : ℕ) �
   unfolding header_bytes
   header-again =
       ap (λ (ns : List ℤ). bytes_of l.header (join 0 (header_fields l) ns)) header-numbers
-      ∙ bytes-again (header_fields l) (header-narrow l w.usable) l.header w.header s bytes (omega (arith, passes.whole))
+      ∙ bytes-again (header_fields l) (header-narrow l) l.header w.header_full s bytes (omega (arith, passes.whole))
 
   -- ---- the records
   abbrev numbers : ℕ → List ℤ
@@ -114,7 +118,7 @@ module _ (l : Layout) (w : WritableLayout l) (s : List ℕ) (bytes : (i : ℕ) �
       let from = from_record l s i in
       let room : l.stride ≤ length from = rw (length-drop (record_start l i) s) (omega (arith, piece-room l.header l.stride i n {len = length s} h (omega (arith, passes.whole)))) in
       ap (λ (ts : List ℤ). bytes_of l.stride (join 0 (record_fields l) ts)) (triangle-again i h)
-      ∙ bytes-again (record_fields l) (record-narrow l w.usable) l.stride w.stride from (λ j. rw (get_or-drop (record_start l i) s j 0) (bytes (record_start l i + j))) room
+      ∙ bytes-again (record_fields l) (record-narrow l) l.stride w.record_full from (λ j. rw (get_or-drop (record_start l i) s j 0) (bytes (record_start l i + j))) room
 
   pub file-again : file_bytes l g zs ≡ s
   file-again =
@@ -128,7 +132,7 @@ module _ (l : Layout) (w : WritableLayout l) (s : List ℕ) (bytes : (i : ℕ) �
   header-fits : header_fits l (header_to_write g n) ≡ true
   header-fits =
       let ns = header_to_write g n in
-      let held : can_hold_all (header_fields l) ns ≡ true = ap (can_hold_all (header_fields l)) header-numbers ∙ held-split (header_fields l) (header-narrow l w.usable) s 0 in
+      let held : can_hold_all (header_fields l) ns ≡ true = ap (can_hold_all (header_fields l)) header-numbers ∙ held-split (header_fields l) (header-narrow l) s 0 in
       (and-eq-true_iff (can_hold_all (header_fields l) ns) _).1
       (held, (and-eq-true_iff (lt_z (pos 0) g.edge) (extent_fits l.farthest (header_from ns).grid)).1 (passes.edge, passes.extent))
 
@@ -137,7 +141,7 @@ module _ (l : Layout) (w : WritableLayout l) (s : List ℕ) (bytes : (i : ℕ) �
   triangles-fit i h =
       ap (triangle_fits l) (triangle-again i h)
       ∙ (and-eq-true_iff (can_hold_all (record_fields l) (split (record_fields l) (from_record l s i) 0)) _).1
-      (held-split (record_fields l) (record-narrow l w.usable) (from_record l s i) 0, passes.kinds i h)
+      (held-split (record_fields l) (record-narrow l) (from_record l s i) 0, passes.kinds i h)
 
   pub asked-again : (room : ℕ) → length s ≤ room → asked (write_questions l g zs room) ≡ passed
   unfolding answered

@@ -34,10 +34,10 @@ write-then-read g zs out n e =
     let given = asked-given (record_start version1 (triangle_count zs)) (write_questions version1 g zs (length out)) e in
     let a = admitted version1 g zs (length out) given.0 in
     let file = file_bytes version1 g zs in
-    let long : length file ≡ n = file-length version1 version1-writable g zs (length out) a ∙ given.1 in
+    let long : length file ≡ n = file-length version1-writable g zs (length out) a ∙ given.1 in
     let left = sym (write-given g zs out given.0).1 in
     let same : take n (written_bytes g zs out) ≡ file = ap (take n) left ∙ take_at file (drop (record_start version1 (triangle_count zs)) out) n long in
-    let r = written-reads version1 version1-writable g zs (length out) a in
+    let r = written-reads version1-writable g zs (length out) a in
     subst (λ (s : List ℕ). (length s ≡ n) × (checked s ≡ gives (header_of s)) × Reads version1 g zs s) (sym same) (long, checks g zs file r, r)
 
 module _ (s : List ℕ) (bytes : (i : ℕ) → get_or s i 0 < 256) (ok : asked (file_questions s) ≡ passed) (out : List ℕ) (room : length s ≤ length out) where
@@ -49,11 +49,11 @@ module _ (s : List ℕ) (bytes : (i : ℕ) → get_or s i 0 < 256) (ok : asked (
 
   rewritten : (writing g zs (length out) ≡ gives (length s)) × (written_bytes g zs out ≡ s ++ drop (length s) out)
   rewritten =
-      let questions = asked-again version1 version1-writable s bytes ok (length out) room in
-      let again = file-again version1 version1-writable s bytes ok in
+      let questions = asked-again version1-writable s bytes ok (length out) room in
+      let again = file-again version1-writable s bytes ok in
       let given = write-given g zs out questions in
       let size : record_start version1 (triangle_count zs) ≡ length s =
-      sym (file-length version1 version1-writable g zs (length out) (admitted version1 g zs (length out) questions)) ∙ ap length again in
+      sym (file-length version1-writable g zs (length out) (admitted version1 g zs (length out) questions)) ∙ ap length again in
       (sym given.0 ∙ ap gives size, sym given.1 ∙ λ i. again i ++ drop (size i) out)
 
 pub read-then-write : ReadThenWrite

@@ -26,7 +26,8 @@ use Rattle.layout.specs.Values.{number_at, natural_at, header_from, record_from,
 use Rattle.frame.specs.Questions.{extent_fits, header_questions, kind_question, questions_by}
 use Rattle.numbers.specs.Numbers.{record_numbers}
 use Rattle.layout_write.specs.Writing.{can_hold, can_hold_all, join, header_bytes, record_bytes}
-use Rattle.layout_write.specs.Put.{total, WritableLayout}
+use Rattle.layout_write.specs.declared.WritableLayout.{WritableLayout}
+use Rattle.layout_write.specs.Put.{total}
 use Rattle.layout_write.proofs.Held.{held-length, held_at, plain-held, less-one-held, span, spread}
 use Rattle.layout_write.proofs.Rows.{Narrow, header-narrow, record-narrow}
 use Rattle.writable.specs.Fits.{triangle_numbers}
@@ -51,7 +52,10 @@ split-bytes fs narrow len whole ns held {s} rest e =
     let less : join 0 fs ns < 2 ^ (len * 8) = subst (λ (t : ℕ). join 0 fs ns < 2 ^ t) whole (joined-lt fs narrow ns held) in
     split-join fs narrow ns held s 0 (ap₂ (λ (t : List ℕ) (w : ℕ). field_at t 0 w) e whole ∙ field-bytes len (join 0 fs ns) rest less)
 
-module _ (l : Layout) (w : WritableLayout l) (g : GridValues) (zs : List ℤ) (room : ℕ) (a : Admitted l g zs room) where
+module _ (w : WritableLayout) (g : GridValues) (zs : List ℤ) (room : ℕ) (a : Admitted w.shape g zs room) where
+  abbrev l : Layout
+  l = w.shape
+
   abbrev n : ℕ
   n = triangle_count zs
 
@@ -73,7 +77,7 @@ module _ (l : Layout) (w : WritableLayout l) (g : GridValues) (zs : List ℤ) (r
   -- ---- the header
   header-split : split (header_fields l) s 0 ≡ ns
   unfolding header_bytes
-  header-split = split-bytes (header_fields l) (header-narrow l w.usable) l.header w.header ns a.held (records_bytes l zs n) refl
+  header-split = split-bytes (header_fields l) (header-narrow l) l.header w.header_full ns a.held (records_bytes l zs n) refl
 
   header_is : header_in l s ≡ header_from ns
   unfolding header_in
@@ -94,7 +98,7 @@ module _ (l : Layout) (w : WritableLayout l) (g : GridValues) (zs : List ℤ) (r
       let p = piece-at bytes k sized n i h in
       let behind : from_record l s i ≡ drop (k * i) (records_bytes l zs n) =
       sym (drop-drop (k * i) l.header s) ∙ ap (drop (k * i)) (drop_at (header_bytes l ns) (records_bytes l zs n) l.header (length-header l ns)) in
-      split-bytes (record_fields l) (record-narrow l w.usable) k w.stride (triangle_numbers zs i) (fits i h).0 p.rest (behind ∙ p.is)
+      split-bytes (record_fields l) (record-narrow l) k w.record_full (triangle_numbers zs i) (fits i h).0 p.rest (behind ∙ p.is)
 
   abbrev z0 : ℕ → ℤ
   z0 i = get_or (triangle_numbers zs i) 0 (pos 0)

@@ -2,6 +2,7 @@
 --     scan-rounds      of a file that gives triangles
 --     triangle-only    no other ten numbers are so related to a face
 -- Assumes nothing.
+use Rattle.std.specs.Prelude.{Result, Ok, Err}
 use mathlib.Core.Bool.{true, true≢false}
 use mathlib.Core.List.{List}
 use mathlib.Core.Path.{◌≡◌, refl, sym, ◌∙◌, subst}
@@ -17,8 +18,7 @@ use Rattle.refusal.specs.Inner.{asked}
 use Rattle.refusal.proofs.Asking.{both-passed, first-append, asked-given, each-passed}
 use Rattle.layout_write.proofs.Held.{both}
 use Rattle.writable.specs.Fits.{triangle_numbers}
-use Rattle.rounding.specs.declared.Rounded.{Rounded}
-use Rattle.rounding.specs.declared.Rounded.TheVariants.{Whole, NotFinite, OutOfRange}
+use Rattle.rounding.specs.declared.Unrounded.{Unrounded}
 use Rattle.rounding.specs.declared.Vertex.{Vertex}
 use Rattle.rounding.specs.Rounding.{rounded_of, is_whole, millimetres, Rounds, Says}
 use Rattle.rounding.proofs.Meaning.{says}
@@ -35,10 +35,9 @@ use Rattle.scan_words.proofs.Rounded.{whole-only}
 rounds : (x : Float) → is_whole (rounded_of x) ≡ true → Rounds x (millimetres (rounded_of x))
 rounds x = go (rounded_of x) (says x)
   where
-    go : (r : Rounded) → Says x r → is_whole r ≡ true → Rounds x (millimetres r)
-    go (Whole r) h e = h
-    go NotFinite h e = absurd (true≢false (sym e))
-    go OutOfRange h e = absurd (true≢false (sym e))
+    go : (r : Result ℤ Unrounded) → Says x r → is_whole r ≡ true → Rounds x (millimetres r)
+    go (Ok r) h e = h
+    go (Err why) h e = absurd (true≢false (sym e))
 
 nearest : (v : Vertex) → placed v ≡ true → IsNearest v (corner_of v)
 unfolding placed corner_of

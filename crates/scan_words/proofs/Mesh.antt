@@ -3,6 +3,7 @@
 --     mesh-read      its triangles
 -- Assumes nothing.
 use mathlib.Core.Bool.{true}
+use Rattle.std.specs.Prelude.{Ok, Some}
 use mathlib.Core.List.{List, [], ◌∷◌, ◌++◌, append_assoc}
 use mathlib.Core.Path.{◌≡◌, refl, sym, ap, ◌∙◌, subst}
 use Prim.Native.Nat.{ℕ, zero, suc, ◌+◌, ◌*◌, ◌/◌, ◌%◌, ◌<◌, ◌≤◌}
@@ -21,11 +22,9 @@ use Rattle.text.specs.Text.{decimal}
 use Rattle.text.proofs.Decimals.{decimal_digit, decimal-more}
 use Rattle.frame_write.specs.Write.{concat_below}
 use Rattle.frame_write.proofs.Pieces.{length-pieces, piece-at, pieces-same}
-use Rattle.rounding.specs.declared.Rounded.TheVariants.{Whole}
 use Rattle.rounding.specs.declared.Vertex.{Vertex}
 use Rattle.rounding.specs.Rounding.{rounded_of, millimetres}
 use Rattle.ply_header.specs.declared.Form.{Form}
-use Rattle.ply_header.specs.declared.Header.TheVariants.{Taken}
 use Rattle.ply_header.specs.Header.{header}
 use Rattle.ply_header.specs.Format.{Spells, one, more}
 use Rattle.ply_header.proofs.Written.{header-back}
@@ -56,9 +55,9 @@ mesh-header m rest = header-back m.x m.y m.z (spells m.vertices m.vertices (omeg
 
 -- ---- a vertex that is rounded
 record RoundsTo (v : Vertex) (c : Corner) : Type 0 where
-  x : rounded_of v.x ≡ Whole c.x
-  y : rounded_of v.y ≡ Whole c.y
-  z : rounded_of v.z ≡ Whole c.z
+  x : rounded_of v.x ≡ Ok c.x
+  y : rounded_of v.y ≡ Ok c.y
+  z : rounded_of v.z ≡ Ok c.z
 
 placed_by : {v : Vertex} {c : Corner} → RoundsTo v c → placed v ≡ true
 unfolding placed
@@ -167,7 +166,7 @@ module _ (m : Mesh) where
         length-pieces (mesh_face m) 13 face-long m.faces,
       )
 
-  taken_is : m.faces ≤ 4095 → taken s ≡ Taken (mesh_form m)
+  taken_is : m.faces ≤ 4095 → taken s ≡ Some (mesh_form m)
   unfolding mesh_file
   taken_is few = form-enough s (mesh_form m) (ap header (append_assoc (mesh_header m) vertices faces) ∙ mesh-header m (vertices ++ faces)) few whole_length
 

@@ -4,6 +4,7 @@
 --     exact-rounded     a float that is a whole number exactly is rounded to it, or is outside
 --     int-rounded       so is an `i32`, as a double
 -- Assumes nothing.
+use Rattle.std.specs.Prelude.{Ok, Err}
 use mathlib.Core.Bool.{Bool, true, false, cond}
 use mathlib.Core.Path.{◌≡◌, refl, sym, ap, ◌∙◌, subst}
 use Prim.Native.Nat.{ℕ, suc, ◌+◌, ◌*◌, ◌<◌}
@@ -15,7 +16,7 @@ use lib.Signed.{mag}
 use lib.Ieee.{Float, nan, inf, fin, binary64, up, down, of_int}
 use lib.Ieee.Fits.{down_pos}
 use lib.Ieee.Nearest.{closest}
-use Rattle.rounding.specs.declared.Rounded.TheVariants.{Whole, OutOfRange}
+use Rattle.rounding.specs.declared.Unrounded.TheVariants.{OutOfRange}
 use Rattle.rounding.specs.Rounding.{finite, scaled, unit, Nearest, whole_of, in_range, rounded_of, Rounds}
 use Rattle.rounding.specs.Widening.{Equals}
 use Rattle.rounding.proofs.Near.{Near, near-closest, near-unique}
@@ -49,15 +50,15 @@ whole-only (fin true m e) r t n =
 whole-only (fin false m e) r t n = only-pos (m * up e) (down e) r (down_pos e) n
 
 -- ---- so each float is rounded as it must be
-finite-rounded : (x : Float) (r : ℤ) → T (finite x) → Nearest (scaled x) (unit x) r → rounded_of x ≡ cond (in_range r) (Whole r) OutOfRange
+finite-rounded : (x : Float) (r : ℤ) → T (finite x) → Nearest (scaled x) (unit x) r → rounded_of x ≡ cond (in_range r) (Ok r) (Err OutOfRange)
 finite-rounded nan r t n = absurd t
 finite-rounded (inf s) r t n = absurd t
-finite-rounded (fin s m e) r t n = ap (λ (w : ℤ). cond (in_range w) (Whole w) OutOfRange) (sym (whole-only (fin s m e) r t n))
+finite-rounded (fin s m e) r t n = ap (λ (w : ℤ). cond (in_range w) (Ok w) (Err OutOfRange)) (sym (whole-only (fin s m e) r t n))
 
-pub whole-complete : (x : Float) (r : ℤ) → Rounds x r → rounded_of x ≡ Whole r
+pub whole-complete : (x : Float) (r : ℤ) → Rounds x r → rounded_of x ≡ Ok r
 whole-complete x r h = finite-rounded x r h.exact h.nearest ∙ go (in_range r) h.ranged
   where
-    go : (b : Bool) → T b → cond b (Whole r) OutOfRange ≡ Whole r
+    go : (b : Bool) → T b → cond b (Ok r) (Err OutOfRange) ≡ Ok r
     go true t = refl
     go false t = absurd t
 
@@ -67,11 +68,11 @@ unit-pos nan = zero-lt-suc 0
 unit-pos (inf s) = zero-lt-suc 0
 unit-pos (fin s m e) = down_pos e
 
-pub exact-rounded : (x : Float) (k : ℤ) → Equals x k → rounded_of x ≡ cond (in_range k) (Whole k) OutOfRange
+pub exact-rounded : (x : Float) (k : ℤ) → Equals x k → rounded_of x ≡ cond (in_range k) (Ok k) (Err OutOfRange)
 exact-rounded x k v =
     let d = unit x in
     let e : nat_abs (scaled x -ℤ k *ℤ pos d) ≡ 0 = ap (λ (z : ℤ). nat_abs (z -ℤ k *ℤ pos d)) v.value ∙ ap nat_abs (+ℤ_invr (k *ℤ pos d)) in
     finite-rounded x k v.exact (record { half = omega arith; even = λ t. absurd (omega (arith, unit-pos x)) })
 
-pub int-rounded : (k : ℤ) → mag k < 2147483648 → rounded_of (of_int binary64 k) ≡ cond (in_range k) (Whole k) OutOfRange
+pub int-rounded : (k : ℤ) → mag k < 2147483648 → rounded_of (of_int binary64 k) ≡ cond (in_range k) (Ok k) (Err OutOfRange)
 int-rounded k h = exact-rounded (of_int binary64 k) k (int-value k h)

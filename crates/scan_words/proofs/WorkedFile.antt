@@ -8,6 +8,7 @@
 --     negative, large, four, far, most-corners, second, lowest-face, no-corners    15
 --     vertex-first, no_edge, no_room, room-last    12, 11, and which refusal comes first
 -- Assumes nothing.
+use Rattle.std.specs.Prelude.{Ok, Some}
 use mathlib.Core.List.{List, [], ◌∷◌, ◌++◌}
 use mathlib.Core.Path.{◌≡◌, refl, subst}
 use Prim.Native.Nat.{ℕ, zero, suc, ◌^◌, ◌<◌}
@@ -24,12 +25,10 @@ use Rattle.layout_write.specs.Writing.{header_bytes, record_bytes}
 use Rattle.writable.specs.Fits.{all_below}
 use Rattle.frame_write.specs.declared.GridValues.{GridValues}
 use Rattle.frame_write.specs.Write.{concat_below, writing, written_bytes}
-use Rattle.rounding.specs.declared.Rounded.TheVariants.{Whole}
 use Rattle.rounding.specs.Rounding.{rounded_of, Says}
 use Rattle.rounding.proofs.Meaning.{says}
 use Rattle.ply_header.specs.declared.Scalar.{Scalar}
 use Rattle.ply_header.specs.declared.Scalar.TheVariants.{Float, Double, Int}
-use Rattle.ply_header.specs.declared.Header.TheVariants.{Taken}
 use Rattle.ply_header.specs.Text.{bytes}
 use Rattle.ply_header.specs.Format.{header_text}
 use Rattle.ply_header.proofs.WorkedHeaders.{header-parts}
@@ -90,7 +89,7 @@ abbrev minus_one : List ℕ
 minus_one = 0xff ∷ 0xff ∷ 0xff ∷ 0xff ∷ []
 
 -- ---- what it gives
-pub form : taken (file inside corners) ≡ Taken (record { x = Float; y = Double; z = Int; vertices = 3; faces = 1; body = 168 })
+pub form : taken (file inside corners) ≡ Some (record { x = Float; y = Double; z = Int; vertices = 3; faces = 1; body = 168 })
 unfolding parts
 form = refl
 
@@ -120,7 +119,7 @@ rounded zero = record { x = pos 2; y = pos 0; z = neg_ℤ (pos 7) }
 rounded (suc zero) = record { x = pos 8191; y = pos 4; z = pos 100 }
 rounded (suc (suc k)) = record { x = neg_ℤ (pos 8192); y = pos 0; z = pos 1 }
 
-meant : (t : Scalar) (b : ℕ) {r : ℤ} → b < 256 ^ bytes_in t → rounded_of (value_of t b) ≡ Whole r → Meant t b r
+meant : (t : Scalar) (b : ℕ) {r : ℤ} → b < 256 ^ bytes_in t → rounded_of (value_of t b) ≡ Ok r → Meant t b r
 meant t b n e = record { narrow = n; rounds = subst (Says (value_of t b)) e (says (value_of t b)) }
 
 each : (k : ℕ) → MeantVertex mesh k (rounded k)

@@ -1,5 +1,5 @@
 -- A mesh, and the scanner's file that it is written to: the format from the writer's side. Definitions only.
-use Rattle.std.specs.Prelude.{List, [], ◌∷◌, ◌++◌, ◌≡◌, ℕ, zero, suc, ◌/◌, ◌%◌, ◌^◌, ◌<◌, ◌≤◌, ℤ, pos, length, Float as F}
+use Rattle.std.specs.Prelude.{List, [], ◌∷◌, ◌++◌, Some, ◌≡◌, ℕ, zero, suc, ◌/◌, ◌%◌, ◌^◌, ◌<◌, ◌≤◌, ℤ, pos, length, Float as F}
 use Rattle.std.specs.Float.{binary32, binary64}
 use Rattle.std.specs.Float.Ieee.{of_bits, of_int}
 use Rattle.bits.specs.Field.{twos_complement}
@@ -10,7 +10,6 @@ use Rattle.rounding.specs.Rounding.{Rounds}
 use Rattle.ply_header.specs.declared.Scalar.{Scalar}
 use Rattle.ply_header.specs.declared.Scalar.TheVariants.{Float, Double, Int}
 use Rattle.ply_header.specs.declared.Form.{Form}
-use Rattle.ply_header.specs.declared.Header.TheVariants.{Taken}
 use Rattle.ply_header.specs.Header.{header}
 use Rattle.ply_header.specs.Format.{header_text}
 use Rattle.ply.specs.declared.Corner.{Corner}
@@ -110,7 +109,7 @@ mesh_form m = record { x = m.x; y = m.y; z = m.z; vertices = m.vertices; faces =
 
 -- It is read so, whatever stands behind it.
 abbrev pub HeaderRead : Type 0
-HeaderRead = (m : Mesh) (rest : List ℕ) → header (mesh_header m ++ rest) ≡ Taken (mesh_form m)
+HeaderRead = (m : Mesh) (rest : List ℕ) → header (mesh_header m ++ rest) ≡ Some (mesh_form m)
 
 -- The file of a mesh gives the triangles of its faces, in order.
 abbrev pub MeshRead : Type 0

@@ -1,5 +1,5 @@
 -- What the triangles of a scanner's file have to do with its numbers; and what the frame file made of it says. Definitions only. `s` is the whole file.
-use Rattle.std.specs.Prelude.{true, List, ◌≡◌, ℕ, ◌+◌, ◌*◌, ◌<◌, ℤ, pos, length, get_or, take}
+use Rattle.std.specs.Prelude.{true, List, Some, ◌≡◌, ℕ, ◌+◌, ◌*◌, ◌<◌, ℤ, pos, length, get_or, take}
 use Rattle.refusal.specs.Limit.{gives}
 use Rattle.layout.specs.Layout.{version1}
 use Rattle.frame.specs.File.{header_of}
@@ -12,7 +12,6 @@ use Rattle.rounding.specs.declared.Vertex.{Vertex}
 use Rattle.rounding.specs.Rounding.{Rounds}
 use Rattle.rounding.specs.Widening.{SameValue}
 use Rattle.ply_header.specs.declared.Form.{Form}
-use Rattle.ply_header.specs.declared.Header.TheVariants.{Taken}
 use Rattle.ply_vertex.specs.Vertex.{width_of, number_at, vertex_at}
 use Rattle.ply.specs.declared.Corner.{Corner}
 use Rattle.ply.specs.Body.{face_place, taken, vertex_of, index_at, triangle_of}
@@ -58,7 +57,7 @@ Widens = (s : List ℕ) → ((i : ℕ) → get_or s i 0 < 256) → (f : Form) (a
 -- A file that gives triangles gives one a face, in order: triangle k is that of face k, each corner at most half from its exact value on each axis.
 abbrev pub ScanRounds : Type 0
 ScanRounds =
-    (s : List ℕ) (f : Form) (zs : List ℤ) → taken s ≡ Taken f → scanned s ≡ gives zs
+    (s : List ℕ) (f : Form) (zs : List ℤ) → taken s ≡ Some f → scanned s ≡ gives zs
     → (length zs ≡ 10 * f.faces) × ((k : ℕ) → k < f.faces → TriangleFrom s f (face_place s f k) (triangle_numbers zs k))
 
 -- The outcome is what the writer says and leaves of these triangles.
