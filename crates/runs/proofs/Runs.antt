@@ -5,19 +5,20 @@ use mathlib.Core.List.{List, [], ◌∷◌}
 use Prim.Native.Nat.{ℕ, ◌+◌, ◌-◌, ◌*◌, ◌≤◌, ◌<◌}
 use native.Mathlib.Decide.{dec_lt}
 use native.Mathlib.Omega.{arith}
+use lib.Dec.{lit<}
 use lib.IntN.{ℤ, pos, ◌+ℤ◌, ◌-ℤ◌, ◌*ℤ◌}
 use lib.Signed.{◌≤ℤ◌, ◌<ℤ◌}
 use mir.Syntax.{w64}
 use mir.Val.{SFits, to_z, of_z}
-use mir.Facts.{to_z-of_z}
+use mir.Facts.{to_z-of_z, to_z_pos}
 use Rattle.integers.specs.Within.{Within, Withins}
 use Rattle.integers.proofs.Omega.{zarith, +!, -! }
 use Rattle.integers.proofs.Laws.{pos-le}
-use Rattle.integers.proofs.Expr.{Expr, var, num, ◌⊕◌, ◌⊗◌}
+use Rattle.integers.proofs.Expr.{Expr, var, raw, num, ◌⊕◌, ◌⊗◌}
 use Rattle.integers.proofs.Ring.{ring}
 use Rattle.integers.proofs.Certificates.{le, ◌⊠◌, by_le}
 use Rattle.integers.proofs.Bounds.{within-add, within-mul}
-use Rattle.integers.proofs.Machine.{Asks, mach, asks, run}
+use Rattle.integers.proofs.Machine.{Asks, mach, asks, run, within-to_z}
 use Rattle.runs.specs.Run.{slope_max, form_at, constant_max, Stepping, Splits}
 
 abbrev pub form_max : ℕ
@@ -83,7 +84,7 @@ pub record Given (first end : ℕ) (step at : ℤ) : Type 0 where
 
 -- the first value, of the form's numbers and a cell's number; and the numbers from which the next value is made
 abbrev pub start_form : Expr
-start_form = var 0 ⊗ var 2 ⊕ var 1
+start_form = var 0 ⊗ raw 2 ⊕ var 1
 
 abbrev start_max : List ℕ
 start_max = slope_max ∷ constant_max ∷ 64 ∷ []
@@ -95,14 +96,16 @@ module _ {first end : ℕ} {step at : ℤ} (g : Given first end step at) where
   form-read : (k : ℕ) → form_at (read step) (read at) k ≡ form_at step at k
   form-read k = λ i. form_at (to_z-of_z g.step_fits i) (to_z-of_z g.at-fits i) k
 
-  start-in : {z : ℤ} {k : ℕ} → z ≡ pos k → k ≤ 64 → Withins start_max (step ∷ at ∷ z ∷ [])
-  start-in e h = (g.form.slope, (g.form.constant, (rw e (record { within = h }), tt)))
+  start-in : {k : ℕ} → k ≤ 64 → Withins start_max (step ∷ at ∷ to_z w64 k ∷ [])
+  start-in h = (g.form.slope, (g.form.constant, (within-to_z w64 (lit< tt) h, tt)))
 
-  pub start-asks : {z : ℤ} {k : ℕ} → z ≡ pos k → k ≤ 64 → Asks (step ∷ at ∷ z ∷ []) start_form
-  start-asks {z} e h = asks (step ∷ at ∷ z ∷ []) start_form start_max tt (start-in e h)
+  pub start-asks : {k : ℕ} → k ≤ 64 → Asks (step ∷ at ∷ to_z w64 k ∷ []) start_form
+  start-asks {k} h = asks (step ∷ at ∷ to_z w64 k ∷ []) start_form start_max tt (start-in h)
 
-  pub start_is : {z : ℤ} {k : ℕ} → z ≡ pos k → k ≤ 64 → mach (step ∷ at ∷ z ∷ []) start_form ≡ form_at (read step) (read at) k
-  start_is {z} {k} e h = run (step ∷ at ∷ z ∷ []) start_form start_max tt (start-in e h) ∙ ap (λ (y : ℤ). step *ℤ y +ℤ at) e ∙ sym (form-read k)
+  pub start_is : {k : ℕ} → k ≤ 64 → mach (step ∷ at ∷ to_z w64 k ∷ []) start_form ≡ form_at (read step) (read at) k
+  start_is {k} h =
+      run (step ∷ at ∷ to_z w64 k ∷ []) start_form start_max tt (start-in h)
+      ∙ ap (λ (y : ℤ). step *ℤ y +ℤ at) (to_z_pos w64 {n = k} (omega arith)) ∙ sym (form-read k)
 
   pub next-in : {x : ℤ} {k : ℕ} → x ≡ form_at (read step) (read at) k → k ≤ 64 → Withins next_max (x ∷ step ∷ [])
   next-in {k = k} e h = (rw (e, form-read k) (form-within step at g.form h), (g.form.slope, tt))

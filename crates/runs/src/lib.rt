@@ -11,17 +11,14 @@ fn raised(first: usize, end: usize, step: i64, at: i64) -> usize
     requires { Stepping first end step at × (pos 0 ≤ℤ step) }
     ensures { Splits first end (FormFails step at) (FormHolds step at) result }
 {
-    let start = integers::from_index(first);
-    let mut k = first;
-    let mut x = step * start + at;
-    while k < end {
+    let mut x = step * first as i64 + at;
+    for k in first..end {
         if 0 <= x {
             return k;
         }
-        x = x + step;
-        k += 1;
+        x += step;
     }
-    k
+    end
 }
 
 // The end of the cells of a run at which step × k + at is not negative. The form does not rise.
@@ -29,17 +26,14 @@ fn lowered(first: usize, end: usize, step: i64, at: i64) -> usize
     requires { Stepping first end step at × (step ≤ℤ pos 0) }
     ensures { Splits first end (FormHolds step at) (FormFails step at) result }
 {
-    let start = integers::from_index(end);
-    let mut k = end;
-    let mut x = step * start + at;
-    while first < k {
+    let mut x = step * end as i64 + at;
+    for k in (first..end).rev() {
         if step <= x {
-            return k;
+            return k + 1;
         }
-        x = x - step;
-        k -= 1;
+        x -= step;
     }
-    k
+    first
 }
 
 // The part of a run at which step × k + at is not negative.
@@ -49,13 +43,13 @@ pub fn by_form(run: CellRange, step: i64, at: i64) -> CellRange
 {
     if step < 0 {
         CellRange {
-            first: run.first,
             end: lowered(run.first, run.end, step, at),
+            ..run
         }
     } else {
         CellRange {
             first: raised(run.first, run.end, step, at),
-            end: run.end,
+            ..run
         }
     }
 }
