@@ -4,8 +4,8 @@
 
 ghost use Rattle.std.specs.Prelude.{◌≤◌, length};
 
-use console::{Gone, Streams};
-use listing::{Begun, Piece, Rest};
+use console::{Stopped, Streams};
+use listing::{BeginError, Rest};
 use std::process::ExitCode;
 
 // Lends the memory: one byte more than the longest file that can be accepted, the largest map, and lines to write.
@@ -16,57 +16,35 @@ fn main(rt: HostRuntime) -> ExitCode {
     console::status(answer(&rt, &mut file, &mut map, &mut out))
 }
 
-// Reads the file, and lists it.
-fn answer(rt: &impl Streams, file: &mut [u8], map: &mut [u8], out: &mut [u8]) -> Result<(), Gone>
+// Reads the file, and writes its listing. Nothing is written before the map is filled.
+fn answer(rt: &impl Streams, file: &mut [u8], map: &mut [u8], out: &mut [u8]) -> Result<(), Stopped>
     requires { 64 ≤ length out.old }
 {
-    let input = console::read_input(rt, file);
-    if !input.whole {
-        return Ok(());
-    }
-    let len = input.len;
-    list(rt, &file[..len], map, out)
-}
-
-// Writes the listing of a file. Nothing is written before the map is filled.
-fn list(rt: &impl Streams, file: &[u8], map: &mut [u8], out: &mut [u8]) -> Result<(), Gone>
-    requires { 64 ≤ length out.old }
-{
-    match listing::begin(file, map, out) {
-        Begun::More(first, rest) => {
-            if console::send(rt, out, first)? {
-                list_cells(rt, map, rest, out)?;
-            }
-            Ok(())
+    let len = console::read_input(rt, file)?;
+    match listing::begin(&file[..len], map, out) {
+        Ok(begun) => {
+            console::send(rt, out, begun.len)?;
+            list_cells(rt, map, begun.rest, out)
         }
-        Begun::Refused(limit) => {
+        Err(BeginError::Refused(limit)) => {
             let line = listing::put_refusal(limit, out);
             console::refuse(rt, out, line)
         }
-        Begun::ShortBuffer => Ok(()),
+        Err(BeginError::ShortBuffer) => Ok(()),
     }
 }
 
 // Writes the lines of the filled cells that are left, one buffer after the other, until a write fails.
-fn list_cells(rt: &impl Streams, map: &[u8], rest: Rest, out: &mut [u8]) -> Result<(), Gone>
+fn list_cells(rt: &impl Streams, map: &[u8], rest: Rest, out: &mut [u8]) -> Result<(), Stopped>
     requires { 64 ≤ length out.old }
 {
-    let mut left = rest;
-    loop {
-        match listing::more(map, left, out) {
-            Piece::Written(len, next) => {
-                if !console::send(rt, out, len)? {
-                    return Ok(());
-                }
-                left = next;
-            }
-            Piece::Last(len) => {
-                console::send(rt, out, len)?;
-                return Ok(());
-            }
-            Piece::Unusable => {
-                return Ok(());
-            }
-        }
+    let mut left = Some(rest);
+    while let Some(rest) = left {
+        let Some(piece) = listing::more(map, rest, out) else {
+            return Ok(());
+        };
+        console::send(rt, out, piece.len)?;
+        left = piece.rest;
     }
+    Ok(())
 }
