@@ -7,7 +7,7 @@ ghost use Rattle.grid.specs.Grid.{cell_count};
 ghost use Rattle.grid.specs.Usable.{GridWithin};
 ghost use Rattle.text.specs.Text.{spaced};
 ghost use Rattle.text.specs.Inner.{Puts};
-ghost use Rattle.cell_line.specs.Line.{axis_numbers, axes_line, box_line};
+ghost use Rattle.cell_line.specs.Line.{axis_numbers, box_line};
 
 use grid::Grid;
 
@@ -18,37 +18,11 @@ pub fn put_cell(out: &mut [u8], g: Grid, cell: usize) -> usize
 {
     let o = g.origin;
     let row = cell / g.nx;
-    put_axes(
-        out,
-        g.edge,
-        o.x,
-        o.y,
-        o.z,
-        cell % g.nx,
-        row % g.ny,
-        row / g.ny,
-    )
-}
-
-// Puts the line of cell (i, j, k), axis by axis.
-fn put_axes(
-    out: &mut [u8],
-    edge: i64,
-    x: i64,
-    y: i64,
-    z: i64,
-    i: usize,
-    j: usize,
-    k: usize,
-) -> usize
-    requires { Within (2 ^ 8) edge × Within (2 ^ 13) x × Within (2 ^ 13) y × Within (2 ^ 13) z × (i < 64) × (j < 64) × (k < 64) × (128 ≤ length out.old) }
-    ensures { Puts out.old 0 (axes_line edge x y z i j k) out.new result × (result ≤ 128) }
-{
     let first = text::put_word(out, 0, b"CELL ");
-    let second = put_axis(out, first, x, i, edge);
-    let third = put_axis(out, second, y, j, edge);
-    let behind = put_axis(out, third, z, k, edge);
-    text::put_byte(out, behind, 10)
+    let second = put_axis(out, first, o.x, cell % g.nx, g.edge);
+    let third = put_axis(out, second, o.y, row % g.ny, g.edge);
+    let behind = put_axis(out, third, o.z, row / g.ny, g.edge);
+    text::put_byte(out, behind, b'\n')
 }
 
 // Puts a cell's numbers of one axis: its place i, and both ends of its box.
@@ -57,7 +31,7 @@ fn put_axis(out: &mut [u8], at: usize, origin: i64, i: usize, edge: i64) -> usiz
     ensures { Puts out.old at (spaced (axis_numbers origin i edge)) out.new result × (result ≤ at + 36) }
 {
     let numbers = [
-        numbers::small(i),
+        i as i32,
         end_of(origin, i, edge),
         end_of(origin, i + 1, edge),
     ];
@@ -69,5 +43,5 @@ fn end_of(origin: i64, i: usize, edge: i64) -> i32
     requires { Within (2 ^ 13) origin × (i ≤ 64) × Within (2 ^ 8) edge }
     ensures { result ≡ origin +ℤ pos i *ℤ edge }
 {
-    numbers::narrow(grid::along(origin, i, edge))
+    grid::along(origin, i, edge) as i32
 }

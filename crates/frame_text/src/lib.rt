@@ -17,7 +17,7 @@ pub fn put_grid(out: &mut [u8], header: Header) -> usize
 {
     let numbers = numbers::header_numbers(header);
     let behind = text::put_numbers(out, 0, &numbers[1..]);
-    text::put_byte(out, behind, 10)
+    text::put_byte(out, behind, b'\n')
 }
 
 // Puts a record: its ten numbers, and its kind in words.
@@ -35,14 +35,10 @@ fn put_kind(out: &mut [u8], at: usize, kind: u32) -> usize
     requires { at + 16 ≤ length out.old }
     ensures { Puts out.old at (kind_text kind) out.new result × (result ≤ at + 16) }
 {
-    if kind == 0 {
-        return text::put_word(out, at, b"# frame\n");
+    match kind {
+        0 => text::put_word(out, at, b"# frame\n"),
+        1 => text::put_word(out, at, b"# entry gate\n"),
+        2 => text::put_word(out, at, b"# exit gate\n"),
+        _ => text::put_word(out, at, b"# unused\n"),
     }
-    if kind == 1 {
-        return text::put_word(out, at, b"# entry gate\n");
-    }
-    if kind == 2 {
-        return text::put_word(out, at, b"# exit gate\n");
-    }
-    text::put_word(out, at, b"# unused\n")
 }

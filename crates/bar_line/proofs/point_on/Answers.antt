@@ -1,9 +1,9 @@
 -- `bar_line::point_on`: the sums are small, and the weighted sum is no further from 0 than the corners allow. Assumes nothing.
-use Rattle.std.proofs.Common.{List, [], ◌∷◌, ℕ, ℤ, pos, ◌≡◌, ap₂, ◌∙◌, ◌+◌, ◌*◌, ◌^◌, ◌*ℤ◌, arith, w32, w64}
+use Rattle.std.proofs.Common.{List, [], ◌∷◌, ℕ, ℤ, pos, ◌≡◌, ap, ap₂, ◌∙◌, lit<, to_z, of_z, ◌+◌, ◌*◌, ◌^◌, ◌*ℤ◌, arith, w32, w64}
 use mir.Facts.{to_z-of_z}
 use Rattle.integers.specs.Within.{Within, Withins}
 use Rattle.integers.proofs.Omega.{zarith}
-use Rattle.integers.proofs.Bounds.{within-add, within-mul}
+use Rattle.integers.proofs.Bounds.{within-add, within-mul, within-fits}
 use Rattle.integers.proofs.Expr.{Expr, var, ◌⊕◌, ◌⊗◌, eval}
 use Rattle.integers.proofs.Machine.{Asks, asks, run}
 use Rattle.geometry.specs.Bounds.{each}
@@ -72,5 +72,6 @@ returns c =
     let a = c.args in
     let r = ρ a.w a.a a.b a.c in
     let i = ins a.w a.a a.b a.c c.requires in
-    to_z-of_z {w = w32} (record { sfits = c.narrow.type_inv }) ∙ c.narrow.ensures ∙ to_z-of_z {w = w64} (record { sfits = c.thousandths.type_inv }) ∙ c.thousandths.ensures.0
+    let t = c.thousandths.ensures in
+    ap (λ (z : ℤ). to_z w32 (of_z w32 z)) (to_z-of_z {w = w64} (within-fits (lit< tt) t.1)) ∙ to_z-of_z {w = w32} (within-fits (lit< tt) t.1) ∙ t.0
     ∙ ap₂ thousandths (run r sum bs tt i) (run r all bs tt i)

@@ -1,36 +1,42 @@
 -- `bar_line::put_behind`: the file is accepted, and has the record. Assumes nothing.
 use borrow.Author.Tests.{lt-ltb}
-use Rattle.std.proofs.Common.{List, ℕ, ◌≡◌, sym, ap, ◌∙◌, subst, subst₂, ◌^◌, ◌<◌, arith, rules}
-use Rattle.geometry.specs.Bounds.{TriangleWithin}
-use Rattle.refusal.specs.Limit.{gives, refused}
+use Rattle.std.proofs.Common.{List, ℕ, ◌≡◌, sym, ap, ◌∙◌, ◌<◌, arith}
+use Rattle.refusal.specs.Limit.{Answer, gives, said}
 use Rattle.grid.specs.Grid.{cell_count}
-use Rattle.grid.specs.Usable.{GridWithin}
-use Rattle.layout.specs.declared.Header.{Header}
 use Rattle.layout.specs.declared.Record.{Record}
 use Rattle.frame.specs.File.{header_of, record_of}
-use Rattle.frame.specs.Questions.{Contents, with_record, no_record, reading, checked, said_reading}
+use Rattle.std.specs.Prelude.{Option, Some, Result, Ok, Err, IsOk, refl}
+use Rattle.refusal.specs.declared.Limit.{Limit}
+use Rattle.frame.specs.declared.Reading.{Reading}
+use Rattle.frame.specs.Questions.{reading, checked}
 use Rattle.frame.proofs.Accepted.{accepted, reading-accepted}
 use Rattle.frame.proofs.Triangles.{triangle-within}
-use Rattle.text.specs.Inner.{Puts}
-use Rattle.numbers.specs.Numbers.{record_numbers}
-use Rattle.numbers.specs.Inner.{Small}
 use Rattle.numbers.proofs.Readings.{record-small}
-use Rattle.weights.specs.declared.Weights.{Weights}
-use Rattle.service.specs.declared.BarAnswer.TheVariants.{Bar}
-use Rattle.service.specs.Bar.{bar, behind, Shown}
+use Rattle.service.specs.declared.Bar.{Bar}
+use Rattle.service.specs.Bar.{behind, Shown}
 use Rattle.service.proofs.Answers.{behind-given}
-use Rattle.bar_line.specs.Line.{behind_lines}
 use Rattle.bar_line.specs.Inner.{FewWeights}
 use Rattle.bar_line.proofs.put_behind.Goals as goal
 
-module _ (file : List ℕ) (cell i : ℕ) (w : Weights) (b : behind file cell ≡ gives (bar i)) (s : Shown file cell (Bar i w)) where
+module _ (file : List ℕ) (cell : ℕ) (bar : Bar) (b : behind file cell ≡ gives (Some bar.index)) (s : Shown file cell (Ok (Some bar))) where
   given : (checked file ≡ gives (header_of file)) × (cell < cell_count (header_of file).grid)
   given = behind-given file cell b
 
-  found : reading file i ≡ gives (with_record (header_of file) (record_of file i))
-  found = reading-accepted file i (header_of file) given.0 ∙ rw (lt-ltb i (header_of file).count s.known)
+  -- what is read
+  abbrev values : Reading
+  values = record { header = header_of file; found = Some (record_of file bar.index) }
 
-  few : FewWeights w
+  read-is : reading file bar.index ≡ gives values
+  read-is = reading-accepted file bar.index (header_of file) given.0 ∙ rw (lt-ltb bar.index (header_of file).count s.known)
+
+  is-ok : (r : Result Reading Limit) → said r ≡ reading file bar.index → IsOk r
+  is-ok (Ok v) e = refl
+  is-ok (Err l) e = let z : ◌≡◌ {A = ℕ} 0 1 = cc (e ∙ read-is) in absurd (omega arith)
+
+  value-is : {r : Result Reading Limit} (v : Reading) → said r ≡ reading file bar.index → r ≡ Ok v → v ≡ values
+  value-is v e ok = let same : ◌≡◌ {A = Answer Reading} (gives v) (gives values) = sym (ap said ok) ∙ e ∙ read-is in cc
+
+  few : FewWeights bar.weights
   few =
       let h = s.shows in
       record {
@@ -44,48 +50,39 @@ module _ (file : List ℕ) (cell i : ℕ) (w : Weights) (b : behind file cell �
         few = h.few;
       }
 
--- ---- what was read
-header_is : {h k : Header} {r q : Record} → gives (with_record h r) ≡ gives (with_record k q) → h ≡ k
-header_is e = cc
+-- the record that was found
+record-is : {o : Option Record} {r q : Record} → o ≡ Some r → o ≡ Some q → r ≡ q
+record-is e f = cc
 
-record_is : {h k : Header} {r q : Record} → gives (with_record h r) ≡ gives (with_record k q) → r ≡ q
-record_is e = cc
+pub unwrap-reading-requires : goal.unwrap-reading-requires
+unwrap-reading-requires c = let a = c.args in is-ok a.file.now a.cell a.bar c.requires.0 c.requires.1 _ c.read.ensures
+
+pub unwrap-requires : goal.unwrap-requires
+unwrap-requires c =
+    let a = c.args in
+    let v = value-is a.file.now a.cell a.bar c.requires.0 c.requires.1 _ c.read.ensures c.unwrap-reading.ensures in
+    rw v refl
 
 pub put_lines-requires : goal.put_lines-requires
 put_lines-requires c =
     let a = c.args in
     let file = a.file.now in
-    let g = given file a.cell a.i a.w c.requires.0 c.requires.1 in
-    let e = sym (found file a.cell a.i a.w c.requires.0 c.requires.1) ∙ sym c.read.ensures ∙ ap said_reading c.in-Found.is in (
-      subst (λ (h : Header). GridWithin (2 ^ 13) (2 ^ 8) h.grid) (header_is e) (accepted file (header_of file) g.0).grid.within,
-      subst (λ (h : Header). a.cell < cell_count h.grid) (header_is e) g.1,
-      subst (λ (r : Record). Small (record_numbers r)) (record_is e) (record-small file a.i),
-      subst (λ (r : Record). TriangleWithin (2 ^ 13) r.triangle) (record_is e) (triangle-within file a.i),
-      few file a.cell a.i a.w c.requires.0 c.requires.1,
-      search rules,
+    let g = given file a.cell a.bar c.requires.0 c.requires.1 in
+    let v = value-is file a.cell a.bar c.requires.0 c.requires.1 _ c.read.ensures c.unwrap-reading.ensures in
+    let rec = record-is c.unwrap.ensures (ap (λ (x : Reading). x.found) v) in
+    rw (v, rec) (
+      (accepted file (header_of file) g.0).grid.within,
+      g.1,
+      record-small file a.bar.index,
+      triangle-within file a.bar.index,
+      few file a.cell a.bar c.requires.0 c.requires.1,
+      c.requires.2,
     )
 
-pub returns-in-Found : goal.returns-in-Found
-returns-in-Found c =
+pub returns : goal.returns
+returns c =
     let a = c.args in
     let file = a.file.now in
-    let e = sym (found file a.cell a.i a.w c.requires.0 c.requires.1) ∙ sym c.read.ensures ∙ ap said_reading c.in-Found.is in
-    subst₂ (λ (h : Header) (r : Record). Puts a.out.now 0 (behind_lines h.grid a.cell a.i r a.w) c.put_lines.new.out c.put_lines.result) (sym (header_is e)) (sym (record_is e))
-    c.put_lines.ensures
-
--- no other answer is read
-not_none : {h k : Header} {r : Record} → gives (with_record h r) ≡ gives (no_record k) → ⊥
-not_none e = let z : ◌≡◌ {A = ℕ} 0 1 = cc in omega arith
-
-not-refused : {c : Contents} {n p : ℕ} → gives c ≡ refused n p → ⊥
-not-refused e = let z : ◌≡◌ {A = ℕ} 0 1 = cc in omega arith
-
-pub returns-in-NoRecord : goal.returns-in-NoRecord
-returns-in-NoRecord c =
-    let a = c.args in
-    absurd (not_none (sym (found a.file.now a.cell a.i a.w c.requires.0 c.requires.1) ∙ sym c.read.ensures ∙ ap said_reading c.in-NoRecord.is))
-
-pub returns-in-Refused : goal.returns-in-Refused
-returns-in-Refused c =
-    let a = c.args in
-    absurd (not-refused (sym (found a.file.now a.cell a.i a.w c.requires.0 c.requires.1) ∙ sym c.read.ensures ∙ ap said_reading c.in-Refused.is))
+    let v = value-is file a.cell a.bar c.requires.0 c.requires.1 _ c.read.ensures c.unwrap-reading.ensures in
+    let rec = record-is c.unwrap.ensures (ap (λ (x : Reading). x.found) v) in
+    rw (v, rec) at c.put_lines.ensures
