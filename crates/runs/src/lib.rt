@@ -7,33 +7,38 @@ ghost use Rattle.runs.specs.Run.{FormHolds, FormFails, Stepping, Splits, passes,
 use grid::CellRange;
 
 // The first cell of a run at which step × k + at is not negative, or the run's end. The form does not fall.
+// No `for`: over a range the compiler turned these loops, of few turns, into vectors: a slab took 151 instructions in place of 129, and 15 times the code.
 fn raised(first: usize, end: usize, step: i64, at: i64) -> usize
     requires { Stepping first end step at × (pos 0 ≤ℤ step) }
     ensures { Splits first end (FormFails step at) (FormHolds step at) result }
 {
+    let mut k = first;
     let mut x = step * first as i64 + at;
-    for k in first..end {
+    while k < end {
         if 0 <= x {
             return k;
         }
         x += step;
+        k += 1;
     }
-    end
+    k
 }
 
-// The end of the cells of a run at which step × k + at is not negative. The form does not rise.
+// The end of the cells of a run at which step × k + at is not negative. The form does not rise. No `for` either.
 fn lowered(first: usize, end: usize, step: i64, at: i64) -> usize
     requires { Stepping first end step at × (step ≤ℤ pos 0) }
     ensures { Splits first end (FormHolds step at) (FormFails step at) result }
 {
+    let mut k = end;
     let mut x = step * end as i64 + at;
-    for k in (first..end).rev() {
+    while first < k {
         if step <= x {
-            return k + 1;
+            return k;
         }
         x -= step;
+        k -= 1;
     }
-    first
+    k
 }
 
 // The part of a run at which step × k + at is not negative.

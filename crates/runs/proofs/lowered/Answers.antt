@@ -1,5 +1,5 @@
 -- `runs::lowered`: x is the form at k, and the cells passed fail.
-use Rattle.std.proofs.Common.{◌≡◌, ◌∙◌, sym, ℕ, List, [], ◌∷◌, ◌+◌, ◌-◌, ◌≤◌, ◌<◌, arith, ℤ, pos, ◌-ℤ◌, ◌≤ℤ◌, ◌<ℤ◌, to_z, w64}
+use Rattle.std.proofs.Common.{◌∙◌, sym, ℕ, List, [], ◌∷◌, ◌+◌, ◌-◌, ◌≤◌, ◌<◌, arith, ℤ, pos, ◌-ℤ◌, ◌≤ℤ◌, ◌<ℤ◌, to_z, w64}
 use mir.Facts.{to_z-of_z}
 use Rattle.integers.specs.Within.{Withins}
 use Rattle.integers.proofs.Omega.{le-true, le-false}
@@ -17,8 +17,8 @@ abbrev ρ : Else-step-x → List ℤ
 
 ins : (c : Else-step-x) → Withins next_max (ρ c)
 ins c =
-    next-in (record { form = c.requires.0; step_fits = c.ranges.step; at-fits = c.ranges.at }) c.loop-k.invariant.0
-    (omega (arith, c.requires.0))
+    next-in (record { form = c.requires.0; step_fits = c.ranges.step; at-fits = c.ranges.at }) c.loop-k.invariant.2
+    (omega (arith, c.requires.0, c.loop-k.invariant))
 
 pub overflow_add-x : goal.overflow_add-x
 overflow_add-x c =
@@ -28,7 +28,7 @@ overflow_add-x c =
 pub loop-k-init : goal.loop-k-init
 loop-k-init c =
     let g : Given c.args.first c.args.end c.args.step c.args.at = record { form = c.requires.0; step_fits = c.ranges.step; at-fits = c.ranges.at } in
-    (start_is g c.requires.0.most, λ l h k. absurd (omega arith))
+    (c.requires.0.ordered, omega arith, start_is g c.requires.0.most, λ l h k. absurd (omega arith))
 
 pub returns-then-step-x : goal.returns-then-step-x
 returns-then-step-x c =
@@ -38,10 +38,9 @@ returns-then-step-x c =
     let s = read c.args.step in
     let form = form_at s (read c.args.at) in
     let down : s ≤ℤ pos 0 = rw (to_z-of_z c.ranges.step) c.requires.1 in
-    let t : s ≤ℤ form k = rw i.0 at (le-true s (to_z w64 c.loop-k.x-bits) c.if-step-x.true) in
+    let t : s ≤ℤ form k = rw i.2 at (le-true s (to_z w64 c.loop-k.x-bits) c.if-step-x.true) in
     let n = step-nn (form (k - 1)) (form k) s (previous s (read c.args.at) (omega arith)) t in
-    let same : k - 1 + 1 ≡ k = omega arith in
-    rw same (found g FormHolds FormFails (record { from = omega arith; to = omega arith; below = λ l h u. ≤_trans n (falls s (read c.args.at) down (omega arith)); above = i.1 }))
+    found g FormHolds FormFails (record { from = i.0; to = i.1; below = λ l h u. ≤_trans n (falls s (read c.args.at) down (omega arith)); above = i.3 })
 
 pub loop-k-preserved : goal.loop-k-preserved
 loop-k-preserved c =
@@ -50,9 +49,17 @@ loop-k-preserved c =
     let k = c.loop-k.k in
     let s = read a.step in
     let form = form_at s (read a.at) in
-    let t : form k <ℤ s = rw i.0 at (le-false s (to_z w64 c.loop-k.x-bits) c.if-step-x.false) in
+    let t : form k <ℤ s = rw i.2 at (le-false s (to_z w64 c.loop-k.x-bits) c.if-step-x.false) in
     let n = previous s (read a.at) {k = k} (omega arith) in
-    let all : (l : ℕ) → k - 1 + 1 ≤ l → l < a.end → FormFails s (read a.at) l = λ l h u. i.1 l (omega arith) u in (
-      run (ρ c) (raw 0 ⊖ var 1) next_max tt (ins c) ∙ (λ d. i.0 d -ℤ sym (to_z-of_z c.ranges.step) d) ∙ take_step (form (k - 1)) (form k) s n,
+    let all : (l : ℕ) → k - 1 + 1 ≤ l → l < a.end → FormFails s (read a.at) l = λ l h u. i.3 l (omega arith) u in (
+      omega arith,
+      omega arith,
+      run (ρ c) (raw 0 ⊖ var 1) next_max tt (ins c) ∙ (λ d. i.2 d -ℤ sym (to_z-of_z c.ranges.step) d) ∙ take_step (form (k - 1)) (form k) s n,
       one_below (FormFails s (read a.at)) (step-neg (form (k - 1)) (form k) s n t) all,
     )
+
+pub returns : goal.returns
+returns c =
+    let g : Given c.args.first c.args.end c.args.step c.args.at = record { form = c.requires.0; step_fits = c.ranges.step; at-fits = c.ranges.at } in
+    let i = c.loop-k.invariant in
+    found g FormHolds FormFails (record { from = i.0; to = i.1; below = λ k h u. absurd (omega arith); above = i.3 })

@@ -17,8 +17,8 @@ abbrev ρ : Else-x-ge0 → List ℤ
 
 ins : (c : Else-x-ge0) → Withins next_max (ρ c)
 ins c =
-    next-in (record { form = c.requires.0; step_fits = c.ranges.step; at-fits = c.ranges.at }) c.loop-k.invariant.0
-    (omega (arith, c.requires.0))
+    next-in (record { form = c.requires.0; step_fits = c.ranges.step; at-fits = c.ranges.at }) c.loop-k.invariant.2
+    (omega (arith, c.requires.0, c.loop-k.invariant))
 
 pub overflow_add-x : goal.overflow_add-x
 overflow_add-x c =
@@ -28,7 +28,7 @@ overflow_add-x c =
 pub loop-k-init : goal.loop-k-init
 loop-k-init c =
     let g : Given c.args.first c.args.end c.args.step c.args.at = record { form = c.requires.0; step_fits = c.ranges.step; at-fits = c.ranges.at } in
-    (start_is g (omega (arith, c.requires.0)), λ l h k. absurd (omega arith))
+    (omega arith, c.requires.0.ordered, start_is g (omega (arith, c.requires.0)), λ l h k. absurd (omega arith))
 
 pub returns-then-x-ge0 : goal.returns-then-x-ge0
 returns-then-x-ge0 c =
@@ -36,16 +36,24 @@ returns-then-x-ge0 c =
     let i = c.loop-k.invariant in
     let up : pos 0 ≤ℤ read c.args.step = rw (to_z-of_z c.ranges.step) c.requires.1 in
     found g FormFails FormHolds (record {
-      from = omega arith;
-      to = omega arith;
-      below = i.1;
-      above = λ k h u. ≤_trans (rw i.0 at (le-true (pos 0) (to_z w64 c.loop-k.x-bits) c.if-x-ge0.true)) (rises (read c.args.step) (read c.args.at) up h);
+      from = i.0;
+      to = i.1;
+      below = i.3;
+      above = λ k h u. ≤_trans (rw i.2 at (le-true (pos 0) (to_z w64 c.loop-k.x-bits) c.if-x-ge0.true)) (rises (read c.args.step) (read c.args.at) up h);
     })
 
 pub loop-k-preserved : goal.loop-k-preserved
 loop-k-preserved c =
     let i = c.loop-k.invariant in
     let a = c.args in (
-      run (ρ c) (raw 0 ⊕ var 1) next_max tt (ins c) ∙ (λ d. i.0 d +ℤ sym (to_z-of_z c.ranges.step) d) ∙ next (read a.step) (read a.at) c.loop-k.k,
-      one-above (FormFails (read a.step) (read a.at)) (rw i.0 at (le-false (pos 0) (to_z w64 c.loop-k.x-bits) c.if-x-ge0.false)) i.1,
+      omega arith,
+      omega arith,
+      run (ρ c) (raw 0 ⊕ var 1) next_max tt (ins c) ∙ (λ d. i.2 d +ℤ sym (to_z-of_z c.ranges.step) d) ∙ next (read a.step) (read a.at) c.loop-k.k,
+      one-above (FormFails (read a.step) (read a.at)) (rw i.2 at (le-false (pos 0) (to_z w64 c.loop-k.x-bits) c.if-x-ge0.false)) i.3,
     )
+
+pub returns : goal.returns
+returns c =
+    let g : Given c.args.first c.args.end c.args.step c.args.at = record { form = c.requires.0; step_fits = c.ranges.step; at-fits = c.ranges.at } in
+    let i = c.loop-k.invariant in
+    found g FormFails FormHolds (record { from = i.0; to = i.1; below = i.3; above = λ k h u. absurd (omega arith) })
