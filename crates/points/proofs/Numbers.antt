@@ -13,7 +13,10 @@ use lib.ListN.{length, get_or, set, take}
 use lib.Seq.{take-suc}
 use Rattle.points.specs.declared.Point.{Point}
 use Rattle.points.specs.Points.{numbers_of}
-use Rattle.points.specs.Inner.{with_point}
+
+-- The numbers with those of point i in their places.
+abbrev pub with_point : List ℤ → ℕ → Point → List ℤ
+with_point ns i p = set (set (set ns (3 * i) p.x) (3 * i + 1) p.y) (3 * i + 2) p.z
 
 -- Three numbers put behind the first k.
 put-behind : (ns : List ℤ) (k : ℕ) (x y z : ℤ) → suc (suc k) < length ns

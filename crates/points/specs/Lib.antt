@@ -1,3 +1,1 @@
 pub mod Points
--- inner
-pub mod Inner

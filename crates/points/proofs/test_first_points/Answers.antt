@@ -12,7 +12,7 @@ pub returns : goal.returns
 returns c =
     let a = c.args in
     let long : length a.points ≡ 128 = search rules in
-    let same : take c.lent_count-end.result a.points ≡ take a.count a.points =
-    ap (λ (j : ℕ). take j a.points) (c.lent_count-end.ensures ∙ ap (min a.count) (sym long)) ∙ take_min a.count a.points in
+    let same : take c.min-end.result a.points ≡ take a.count a.points =
+    ap (λ (j : ℕ). take j a.points) (c.min-end.ensures ∙ ap (min a.count) (sym long)) ∙ take_min a.count a.points in
     demand-of a.file.now a.map.now (numbers_of (take a.count a.points))
     (c.test_points.ensures.0 ∙ ap (λ (ps : List Point). route_answer a.file.now a.map.now (numbers_of ps)) same)

@@ -1,10 +1,7 @@
 -- `points::test_points`: the numbers of the points before the loop's are copied.
-use Rattle.std.proofs.Common.{◌≡◌, ◌*◌, ◌-◌, ◌≤◌, length, take}
+use Rattle.std.proofs.Common.{◌≡◌, ◌*◌, length, take}
 use Rattle.points.specs.Points.{numbers_of}
 use Rattle.points.proofs.test_points.Given as goal
 
 abbrev pub invariant-loop-i : goal.invariant-loop-i
-invariant-loop-i l = (l.i ≤ l.count) × (length l.numbers ≡ 195) × (take (3 * l.i) l.numbers ≡ numbers_of (take l.i l.points))
-
-abbrev pub decreases-loop-i : goal.decreases-loop-i
-decreases-loop-i l = l.count - l.i
+invariant-loop-i l = (length l.numbers ≡ 195) × (take (3 * l.i) l.numbers ≡ numbers_of (take l.i l.points))
