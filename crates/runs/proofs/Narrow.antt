@@ -1,8 +1,8 @@
 -- A run, narrowed by tests.
 -- Assumes nothing.
-use mathlib.Core.Bool.{Bool, true, ◌&&◌, and-eq-true_iff, and-true, and_assoc}
+use mathlib.Core.Bool.{Bool, true, ◌&&◌, and-eq-true_iff, and_assoc}
 use mathlib.Core.List.{[], ◌∷◌}
-use mathlib.Core.Path.{◌≡◌, sym, ap, ◌∙◌}
+use mathlib.Core.Path.{◌≡◌, ap, ◌∙◌}
 use Prim.Native.Nat.{ℕ, ◌≤◌, ◌<◌}
 use native.Mathlib.Nat.{lt_of_not-le, le_of_suc-le-suc}
 use native.Mathlib.Decide.{dec_lt}
@@ -44,23 +44,6 @@ narrows run r p o f t all only = record {
       (λ e. let (l, h) = in-range r k e in (and-eq-true_iff (in_range run k) (p k)).1 (range-in run k (omega arith) (omega arith), all k l h))
       (λ e. let (i, q) = (and-eq-true_iff (in_range run k) (p k)).0 e in let (l, h) = in-range run k i in let (l', h') = only k l h q in range-in r k l' h');
 }
-
--- ---- by a form that rises, and by one that falls
-module _ (first end r : ℕ) (step at : ℤ) where
-  abbrev run : CellRange
-  run = record { first = first; end = end }
-
-  pub by-rising : Splits first end (FormFails step at) (FormHolds step at) r → Narrows run (passes step at) (record { first = r; end = end })
-  by-rising h =
-      narrows run (record { first = r; end = end }) (passes step at) h.to h.from (omega arith)
-      (λ k l u. let p = h.above k l u in omega zarith)
-      (λ k l u e. (le_of_not_lt (λ b. clash_ℤ (h.below k l b) (le-true (pos 0) (form_at step at k) e)), u))
-
-  pub by-falling : Splits first end (FormHolds step at) (FormFails step at) r → Narrows run (passes step at) (record { first = first; end = r })
-  by-falling h =
-      narrows run (record { first = first; end = r }) (passes step at) h.from (omega arith) h.to
-      (λ k l u. let p = h.below k l u in omega zarith)
-      (λ k l u e. (l, lt_of_not-le (λ b. clash_ℤ (h.above k b u) (le-true (pos 0) (form_at step at k) e))))
 
 -- ---- by a slab
 module _ (step at reach : ℤ) where
@@ -115,11 +98,3 @@ by_both {run} {half} {r} {p} {q} f g = record {
 -- a test that gives the same answers
 pub by-same : {run r : CellRange} {p q : ℕ → Bool} → ((k : ℕ) → p k ≡ q k) → Narrows run p r → Narrows run q r
 by-same {run} e f = record { ordered = f.ordered; from = f.from; to = f.to; exact = λ k. f.exact k ∙ ap (λ (b : Bool). in_range run k && b) (e k) }
-
-pub by-none : {run : CellRange} {p : ℕ → Bool} → run.first ≤ run.end → ((k : ℕ) → p k ≡ true) → Narrows run p run
-by-none {run} {p} o e = record {
-  ordered = o;
-  from = omega arith;
-  to = omega arith;
-  exact = λ k. sym (ap (λ (b : Bool). in_range run k && b) (e k) ∙ and-true (in_range run k));
-}

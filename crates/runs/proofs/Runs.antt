@@ -82,6 +82,9 @@ pub record Given (first end : ℕ) (step at : ℤ) : Type 0 where
   pub step_fits : SFits w64 step
   pub at-fits : SFits w64 at
 
+pub given : {first end : ℕ} {step at : ℤ} → Stepping first end step at → SFits w64 step → SFits w64 at → Given first end step at
+given form step at = record { form = form; step_fits = step; at-fits = at }
+
 -- the first value, of the form's numbers and a cell's number; and the numbers from which the next value is made
 abbrev pub start_form : Expr
 start_form = var 0 ⊗ raw 2 ⊕ var 1

@@ -7,7 +7,7 @@ use Rattle.integers.proofs.Laws.{≤_trans}
 use Rattle.integers.proofs.Expr.{var, raw, ◌⊖◌}
 use Rattle.integers.proofs.Machine.{run}
 use Rattle.runs.specs.Run.{form_at, FormFails, FormHolds}
-use Rattle.runs.proofs.Runs.{previous, take_step, step-nn, step-neg, falls, one_below, read, Given, next_max, start-asks, start_is, next-in, found}
+use Rattle.runs.proofs.Runs.{previous, take_step, step-nn, step-neg, falls, one_below, read, given, next_max, start-asks, start_is, next-in, found}
 use Rattle.runs.proofs.lowered.Goals as goal
 use Rattle.runs.proofs.lowered.Goals.{Else-step-x}
 
@@ -17,22 +17,22 @@ abbrev ρ : Else-step-x → List ℤ
 
 ins : (c : Else-step-x) → Withins next_max (ρ c)
 ins c =
-    next-in (record { form = c.requires.0; step_fits = c.ranges.step; at-fits = c.ranges.at }) c.loop-k.invariant.2
+    next-in (given c.requires.0 c.ranges.step c.ranges.at) c.loop-k.invariant.2
     (omega (arith, c.requires.0, c.loop-k.invariant))
 
 pub overflow_add-x : goal.overflow_add-x
 overflow_add-x c =
-    let g : Given c.args.first c.args.end c.args.step c.args.at = record { form = c.requires.0; step_fits = c.ranges.step; at-fits = c.ranges.at } in
+    let g = given c.requires.0 c.ranges.step c.ranges.at in
     (start-asks g c.requires.0.most).2
 
 pub loop-k-init : goal.loop-k-init
 loop-k-init c =
-    let g : Given c.args.first c.args.end c.args.step c.args.at = record { form = c.requires.0; step_fits = c.ranges.step; at-fits = c.ranges.at } in
+    let g = given c.requires.0 c.ranges.step c.ranges.at in
     (c.requires.0.ordered, omega arith, start_is g c.requires.0.most, λ l h k. absurd (omega arith))
 
 pub returns-then-step-x : goal.returns-then-step-x
 returns-then-step-x c =
-    let g : Given c.args.first c.args.end c.args.step c.args.at = record { form = c.requires.0; step_fits = c.ranges.step; at-fits = c.ranges.at } in
+    let g = given c.requires.0 c.ranges.step c.ranges.at in
     let i = c.loop-k.invariant in
     let k = c.loop-k.k in
     let s = read c.args.step in
@@ -60,6 +60,6 @@ loop-k-preserved c =
 
 pub returns : goal.returns
 returns c =
-    let g : Given c.args.first c.args.end c.args.step c.args.at = record { form = c.requires.0; step_fits = c.ranges.step; at-fits = c.ranges.at } in
+    let g = given c.requires.0 c.ranges.step c.ranges.at in
     let i = c.loop-k.invariant in
     found g FormHolds FormFails (record { from = i.0; to = i.1; below = λ k h u. absurd (omega arith); above = i.3 })

@@ -7,7 +7,7 @@ use Rattle.integers.proofs.Laws.{≤_trans}
 use Rattle.integers.proofs.Expr.{var, raw, ◌⊕◌}
 use Rattle.integers.proofs.Machine.{run}
 use Rattle.runs.specs.Run.{FormFails, FormHolds}
-use Rattle.runs.proofs.Runs.{next, rises, one-above, read, Given, next_max, start-asks, start_is, next-in, found}
+use Rattle.runs.proofs.Runs.{next, rises, one-above, read, given, next_max, start-asks, start_is, next-in, found}
 use Rattle.runs.proofs.raised.Goals as goal
 use Rattle.runs.proofs.raised.Goals.{Else-x-ge0}
 
@@ -17,22 +17,22 @@ abbrev ρ : Else-x-ge0 → List ℤ
 
 ins : (c : Else-x-ge0) → Withins next_max (ρ c)
 ins c =
-    next-in (record { form = c.requires.0; step_fits = c.ranges.step; at-fits = c.ranges.at }) c.loop-k.invariant.2
+    next-in (given c.requires.0 c.ranges.step c.ranges.at) c.loop-k.invariant.2
     (omega (arith, c.requires.0, c.loop-k.invariant))
 
 pub overflow_add-x : goal.overflow_add-x
 overflow_add-x c =
-    let g : Given c.args.first c.args.end c.args.step c.args.at = record { form = c.requires.0; step_fits = c.ranges.step; at-fits = c.ranges.at } in
+    let g = given c.requires.0 c.ranges.step c.ranges.at in
     (start-asks g (omega (arith, c.requires.0))).2
 
 pub loop-k-init : goal.loop-k-init
 loop-k-init c =
-    let g : Given c.args.first c.args.end c.args.step c.args.at = record { form = c.requires.0; step_fits = c.ranges.step; at-fits = c.ranges.at } in
+    let g = given c.requires.0 c.ranges.step c.ranges.at in
     (omega arith, c.requires.0.ordered, start_is g (omega (arith, c.requires.0)), λ l h k. absurd (omega arith))
 
 pub returns-then-x-ge0 : goal.returns-then-x-ge0
 returns-then-x-ge0 c =
-    let g : Given c.args.first c.args.end c.args.step c.args.at = record { form = c.requires.0; step_fits = c.ranges.step; at-fits = c.ranges.at } in
+    let g = given c.requires.0 c.ranges.step c.ranges.at in
     let i = c.loop-k.invariant in
     let up : pos 0 ≤ℤ read c.args.step = rw (to_z-of_z c.ranges.step) c.requires.1 in
     found g FormFails FormHolds (record {
@@ -54,6 +54,6 @@ loop-k-preserved c =
 
 pub returns : goal.returns
 returns c =
-    let g : Given c.args.first c.args.end c.args.step c.args.at = record { form = c.requires.0; step_fits = c.ranges.step; at-fits = c.ranges.at } in
+    let g = given c.requires.0 c.ranges.step c.ranges.at in
     let i = c.loop-k.invariant in
     found g FormFails FormHolds (record { from = i.0; to = i.1; below = i.3; above = λ k h u. absurd (omega arith) })
