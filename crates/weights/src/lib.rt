@@ -53,42 +53,30 @@ fn rows(t: Triangle, p: Point, extent: i64) -> [Point; 9]
     let x = sides_on(t.v0.x, t.v1.x, t.v2.x, p.x, extent);
     let y = sides_on(t.v0.y, t.v1.y, t.v2.y, p.y, extent);
     let z = sides_on(t.v0.z, t.v1.z, t.v2.z, p.z, extent);
-    let low_x = x.low;
-    let low_y = y.low;
-    let low_z = z.low;
-    let high_x = x.high;
-    let high_y = y.high;
-    let high_z = z.high;
     [
         Point { x: 1, y: 0, z: 0 },
         Point { x: 0, y: 1, z: 0 },
         Point { x: 0, y: 0, z: 1 },
-        low_x,
-        low_y,
-        low_z,
-        high_x,
-        high_y,
-        high_z,
+        x.low,
+        y.low,
+        z.low,
+        x.high,
+        y.high,
+        z.high,
     ]
 }
 
 // Candidate m: the weights on which two of the rows are 0, which is their cross product.
-fn candidate(rows: [Point; 9], m: usize) -> Point
-    requires { BoundedRows rows × (m < 81) }
-    ensures { result ≡ candidate rows m }
+fn candidate(rows: &[Point; 9], m: usize) -> Point
+    requires { BoundedRows rows.now × (m < 81) }
+    ensures { result ≡ candidate rows.now m }
 {
     let a = rows[m % 9];
     let b = rows[m / 9];
-    let ax = a.x;
-    let ay = a.y;
-    let az = a.z;
-    let bx = b.x;
-    let by = b.y;
-    let bz = b.z;
     Point {
-        x: ay * bz - az * by,
-        y: az * bx - ax * bz,
-        z: ax * by - ay * bx,
+        x: a.y * b.z - a.z * b.y,
+        y: a.z * b.x - a.x * b.z,
+        z: a.x * b.y - a.y * b.x,
     }
 }
 
@@ -101,16 +89,14 @@ fn value(r: Point, w: Point) -> i64
 }
 
 // Do the weights fit: is no row negative on them, and their total positive?
-fn fits(rows: [Point; 9], w: Point) -> bool
-    requires { BoundedRows rows × PointWithin normal_max w }
-    ensures { Tells rows w result }
+fn fits(rows: &[Point; 9], w: Point) -> bool
+    requires { BoundedRows rows.now × PointWithin normal_max w }
+    ensures { Tells rows.now w result }
 {
-    let mut k: usize = 0;
-    while k < 9 {
-        if value(rows[k], w) < 0 {
+    for r in rows {
+        if value(*r, w) < 0 {
             return false;
         }
-        k += 1;
     }
     0 < w.x + w.y + w.z
 }
@@ -121,14 +107,15 @@ pub fn weigh(t: Triangle, p: Point, extent: i64) -> Weights
     ensures { (k : ℕ) → TriangleWithin (2 ^ k) t → Weighs (2 ^ (2 * k + 4)) t p (cube extent) result }
 {
     let rows = rows(t, p, extent);
-    let mut m: usize = 0;
-    while !fits(rows, candidate(rows, m)) {
-        m += 1;
+    for m in 0..81 {
+        let w = candidate(&rows, m);
+        if fits(&rows, w) {
+            return Weights {
+                w0: w.x,
+                w1: w.y,
+                w2: w.z,
+            };
+        }
     }
-    let w = candidate(rows, m);
-    Weights {
-        w0: w.x,
-        w1: w.y,
-        w2: w.z,
-    }
+    unreachable!()
 }

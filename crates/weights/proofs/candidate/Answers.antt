@@ -34,34 +34,34 @@ module _ (rs : List Point) (m : ℕ) (h : BoundedRows rs) where
   needed e t = asks (ρ rs m) e bs t ins
 
 pub overflow_mul-result : goal.overflow_mul-result
-overflow_mul-result c = (needed c.args.rows c.args.m c.requires.0 w.x tt).0.2
+overflow_mul-result c = (needed c.args.rows.now c.args.m c.requires.0 w.x tt).0.2
 
 pub overflow_mul-result-2 : goal.overflow_mul-result-2
-overflow_mul-result-2 c = (needed c.args.rows c.args.m c.requires.0 w.x tt).1.2
+overflow_mul-result-2 c = (needed c.args.rows.now c.args.m c.requires.0 w.x tt).1.2
 
 pub overflow_sub-result : goal.overflow_sub-result
-overflow_sub-result c = (needed c.args.rows c.args.m c.requires.0 w.x tt).2
+overflow_sub-result c = (needed c.args.rows.now c.args.m c.requires.0 w.x tt).2
 
 pub overflow_mul-result-3 : goal.overflow_mul-result-3
-overflow_mul-result-3 c = (needed c.args.rows c.args.m c.requires.0 w.y tt).0.2
+overflow_mul-result-3 c = (needed c.args.rows.now c.args.m c.requires.0 w.y tt).0.2
 
 pub overflow_mul-result-4 : goal.overflow_mul-result-4
-overflow_mul-result-4 c = (needed c.args.rows c.args.m c.requires.0 w.y tt).1.2
+overflow_mul-result-4 c = (needed c.args.rows.now c.args.m c.requires.0 w.y tt).1.2
 
 pub overflow_sub-result-2 : goal.overflow_sub-result-2
-overflow_sub-result-2 c = (needed c.args.rows c.args.m c.requires.0 w.y tt).2
+overflow_sub-result-2 c = (needed c.args.rows.now c.args.m c.requires.0 w.y tt).2
 
 pub overflow_mul-result-5 : goal.overflow_mul-result-5
-overflow_mul-result-5 c = (needed c.args.rows c.args.m c.requires.0 w.z tt).0.2
+overflow_mul-result-5 c = (needed c.args.rows.now c.args.m c.requires.0 w.z tt).0.2
 
 pub overflow_mul-result-6 : goal.overflow_mul-result-6
-overflow_mul-result-6 c = (needed c.args.rows c.args.m c.requires.0 w.z tt).1.2
+overflow_mul-result-6 c = (needed c.args.rows.now c.args.m c.requires.0 w.z tt).1.2
 
 pub overflow_sub-result-3 : goal.overflow_sub-result-3
-overflow_sub-result-3 c = (needed c.args.rows c.args.m c.requires.0 w.z tt).2
+overflow_sub-result-3 c = (needed c.args.rows.now c.args.m c.requires.0 w.z tt).2
 
 pub returns : goal.returns
 returns c =
-    let r = ρ c.args.rows c.args.m in
-    let h = ins c.args.rows c.args.m c.requires.0 in
+    let r = ρ c.args.rows.now c.args.m in
+    let h = ins c.args.rows.now c.args.m c.requires.0 in
     λ i. record { x = run r w.x bs tt h i; y = run r w.y bs tt h i; z = run r w.z bs tt h i }

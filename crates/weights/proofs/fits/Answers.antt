@@ -2,7 +2,7 @@
 use borrow.Author.Count.{below_more}
 use mathlib.Core.Bool.{Bool}
 use mathlib.Core.List.{List, []}
-use mathlib.Core.Path.{◌≡◌, refl, sym, ap, ◌∙◌}
+use mathlib.Core.Path.{◌≡◌, sym, ap, ◌∙◌}
 use Prim.Native.Nat.{ℕ}
 use native.Mathlib.Omega.{arith}
 use lib.IntN.{ℤ, pos}
@@ -10,10 +10,9 @@ use lib.Signed.{lt_z, clash_ℤ}
 use mir.Syntax.{w64}
 use mir.Val.{to_z, of_z}
 use Rattle.integers.specs.Within.{Withins}
-use Rattle.integers.proofs.Truth.{apart}
 use Rattle.integers.proofs.Omega.{lt-true, lt-false}
 use Rattle.integers.proofs.Expr.{num}
-use Rattle.integers.proofs.Machine.{back, Asks, asks, tested}
+use Rattle.integers.proofs.Machine.{back, tested}
 use Rattle.geometry.specs.declared.Point.{Point}
 use Rattle.geometry.specs.Bounds.{normal_max, each, PointWithin}
 use Rattle.reach.proofs.Vectors.{totalᴱ, vec, ◌at◌}
@@ -26,37 +25,16 @@ module _ {w : Point} (h : PointWithin normal_max w) where
   ins : Withins bs (w at [])
   ins = (h.x, (h.y, (h.z, tt)))
 
-  needed : Asks (w at []) (totalᴱ (vec 0))
-  needed = asks (w at []) (totalᴱ (vec 0)) bs tt ins
-
-pub loop-k-init : goal.loop-k-init
-loop-k-init c = λ j l. absurd (omega arith)
-
-pub value-requires : goal.value-requires
-value-requires c = (c.requires.0 c.loop-k.k, c.requires.1)
-
-pub overflow_add-result : goal.overflow_add-result
-overflow_add-result c = (needed c.requires.1).0.2
-
-pub overflow_add-result-2 : goal.overflow_add-result-2
-overflow_add-result-2 c = (needed c.requires.1).2
-
 -- the test of a row, whose value the call gives
 negative : {z v : ℤ} {t : Bool} → to_z w64 (of_z w64 z) ≡ z → z ≡ v → lt_z (to_z w64 (of_z w64 z)) (pos 0) ≡ t → lt_z v (pos 0) ≡ t
 negative back is e = ap (λ (z : ℤ). lt_z z (pos 0)) (sym (back ∙ is)) ∙ e
 
-pub returns-then-value-lt0 : goal.returns-then-value-lt0
-returns-then-value-lt0 c = record {
-  yes = λ e. absurd (apart e refl);
-  no = λ e f. clash_ℤ (lt-true _ _ (negative (back w64 c.value.type_inv) c.value.ensures c.if-value-lt0.true)) (f.rows c.loop-k.k c.loop-k-test.true);
-}
-
-pub loop-k-preserved : goal.loop-k-preserved
-loop-k-preserved c = below_more _ _ c.loop-k.invariant (lt-false _ _ (negative (back w64 c.value.type_inv) c.value.ensures c.if-value-lt0.false))
+pub loop-r-preserved : goal.loop-r-preserved
+loop-r-preserved c = below_more _ _ c.loop-r.invariant (lt-false _ _ (negative (back w64 c.value.type_inv) c.value.ensures c.if-value-lt0.false))
 
 pub returns : goal.returns
 returns c =
     record {
-      yes = λ e. record { rows = λ j h. c.loop-k.invariant j (omega arith); some = lt-true _ _ (tested (c.args.w at []) lt_z (num 0) (totalᴱ (vec 0)) bs tt (ins c.requires.1) e) };
+      yes = λ e. record { rows = λ j h. c.loop-r.invariant j (omega arith); some = lt-true _ _ (tested (c.args.w at []) lt_z (num 0) (totalᴱ (vec 0)) bs tt (ins c.requires.1) e) };
       no = λ e f. clash_ℤ f.some (lt-false _ _ (tested (c.args.w at []) lt_z (num 0) (totalᴱ (vec 0)) bs tt (ins c.requires.1) e));
     }

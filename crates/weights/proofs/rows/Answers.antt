@@ -4,7 +4,7 @@ use mathlib.Core.Path.{◌≡◌}
 use lib.IntN.{ℤ, pos}
 use Rattle.integers.specs.Within.{Withins}
 use Rattle.integers.proofs.Expr.{Expr, var, nth}
-use Rattle.integers.proofs.Machine.{machs, evals, bounded, learnt}
+use Rattle.integers.proofs.Machine.{machs, evals, learnt}
 use Rattle.geometry.specs.declared.Point.{Point}
 use Rattle.geometry.specs.declared.Triangle.{Triangle}
 use Rattle.geometry.specs.Geometry.{point, Axis, x_of, y_of, z_of}
@@ -23,20 +23,8 @@ abbrev ρ : Triangle → Point → ℤ → Axis → List ℤ
 ρ t p extent a = a t.v0 ∷ a t.v1 ∷ a t.v2 ∷ a p ∷ extent ∷ []
 
 module _ (r : List ℤ) (h : Withins side_bounds r) where
-  asked : Withins side_bounds (machs r es)
-  asked = bounded r es side_bounds side_bounds tt h
-
   on : (s : Sides) → On s (machs r es) → On s (evals r es)
   on s e = learnt r (On s) es side_bounds tt h e
-
-pub sides_on-x-requires : goal.sides_on-x-requires
-sides_on-x-requires c = let a = c.args in let p = c.requires in asked (ρ a.t a.p a.extent x_of) (on-x p.0 p.1 p.2)
-
-pub sides_on-y-requires : goal.sides_on-y-requires
-sides_on-y-requires c = let a = c.args in let p = c.requires in asked (ρ a.t a.p a.extent y_of) (on-y p.0 p.1 p.2)
-
-pub sides_on-z-requires : goal.sides_on-z-requires
-sides_on-z-requires c = let a = c.args in let p = c.requires in asked (ρ a.t a.p a.extent z_of) (on-z p.0 p.1 p.2)
 
 pub returns : goal.returns
 returns c =

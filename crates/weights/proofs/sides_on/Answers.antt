@@ -5,7 +5,7 @@ use lib.Dec.{T}
 use lib.IntN.{ℤ}
 use Rattle.integers.specs.Within.{Withins}
 use Rattle.integers.proofs.Expr.{Expr, var, ◌⊖◌, eval}
-use Rattle.integers.proofs.Machine.{Asks, mach, asks, run, small}
+use Rattle.integers.proofs.Machine.{mach, run, small}
 use Rattle.weights.specs.Inner.{side_bounds}
 use Rattle.weights.proofs.sides_on.Goals as goal
 
@@ -22,29 +22,8 @@ module _ {a b c p extent : ℤ} (h : Withins side_bounds (a ∷ b ∷ c ∷ p �
   abbrev ρ : List ℤ
   ρ = a ∷ b ∷ c ∷ p ∷ extent ∷ []
 
-  needed : (e : Expr) → T (small e side_bounds) → Asks ρ e
-  needed e t = asks ρ e side_bounds t h
-
   is : (e : Expr) → T (small e side_bounds) → mach ρ e ≡ eval ρ e
   is e t = run ρ e side_bounds t h
-
-pub overflow_sub-x : goal.overflow_sub-x
-overflow_sub-x c = (needed c.requires x tt).2
-
-pub overflow_sub-y : goal.overflow_sub-y
-overflow_sub-y c = (needed c.requires y tt).2
-
-pub overflow_sub-z : goal.overflow_sub-z
-overflow_sub-z c = (needed c.requires z tt).2
-
-pub overflow_sub-result : goal.overflow_sub-result
-overflow_sub-result c = (needed c.requires (var 4 ⊖ x) tt).2
-
-pub overflow_sub-result-2 : goal.overflow_sub-result-2
-overflow_sub-result-2 c = (needed c.requires (var 4 ⊖ y) tt).2
-
-pub overflow_sub-result-3 : goal.overflow_sub-result-3
-overflow_sub-result-3 c = (needed c.requires (var 4 ⊖ z) tt).2
 
 pub returns : goal.returns
 returns c =

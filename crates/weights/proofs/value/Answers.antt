@@ -26,12 +26,6 @@ module _ {r w : Point} (p : PointWithin difference_max r × PointWithin normal_m
   needed : Asks ρ e
   needed = asks ρ e bs tt ins
 
-pub overflow_mul-result : goal.overflow_mul-result
-overflow_mul-result c = (needed c.requires).0.0.2
-
-pub overflow_mul-result-2 : goal.overflow_mul-result-2
-overflow_mul-result-2 c = (needed c.requires).0.1.2
-
 pub overflow_add-result : goal.overflow_add-result
 overflow_add-result c = (needed c.requires).0.2
 

@@ -1,22 +1,21 @@
--- `weights::weigh`: the loop ends below 81, at the first candidate that fits.
+-- `weights::weigh`: the first candidate that fits; some candidate does, so that the loop does not run to its end.
 use mathlib.Core.List.{List, [], ◌∷◌}
 use mathlib.Core.Path.{◌≡◌, sym, ap, ◌∙◌, subst}
-use Prim.Native.Nat.{ℕ, ◌<◌}
-use native.Mathlib.Omega.{arith}
+use Prim.Native.Nat.{ℕ}
 use lib.Dec.{T}
 use lib.IntN.{ℤ}
 use mir.Syntax.{w64}
 use mir.Val.{to_z, of_z}
 use Rattle.integers.specs.Within.{Within}
 use Rattle.integers.proofs.Expr.{var, nth}
-use Rattle.integers.proofs.Machine.{mach, bounded, run, small}
+use Rattle.integers.proofs.Machine.{mach, run, small}
 use Rattle.geometry.specs.declared.Point.{Point}
 use Rattle.geometry.specs.declared.Triangle.{Triangle}
 use Rattle.geometry.specs.Bounds.{extent_max, normal_max, each, PointWithin, BoundedPoint, BoundedTriangle}
 use Rattle.geometry.specs.Geometry.{cube}
 use Rattle.reach.proofs.Vectors.{◌at◌}
 use Rattle.candidates.specs.Candidates.{rows, candidate, Fits}
-use Rattle.candidates.proofs.Found.{Some, some_next, reaches_some}
+use Rattle.candidates.proofs.Found.{some_next, reaches_some}
 use Rattle.weights.specs.Inner.{BoundedRows}
 use Rattle.weights.proofs.Sizes.{rows-bounded, candidate-bounded}
 use Rattle.weights.proofs.Weighed.{weighed}
@@ -30,50 +29,31 @@ module _ {rs : List Point} (t : Triangle) (p : Point) {e : ℤ} (h : Within exte
   rows-small : BoundedTriangle t → BoundedPoint p → BoundedRows rs
   rows-small ht hp = rw rows_are (rows-bounded ht hp h)
 
-below : {rs : List Point} {m : ℕ} → Some rs m → m < 81
-below s = omega (arith, s.from, s.below)
-
 abbrev bs : List ℕ
 bs = each normal_max 3 []
 
 candidate-small : (rs : List Point) (m : ℕ) {w : Point} → BoundedRows rs → w ≡ candidate rs m → PointWithin normal_max w
 candidate-small rs m h e = rw e (candidate-bounded rs h m)
 
-pub rows-rows-requires : goal.rows-rows-requires
-rows-rows-requires c =
-    let p = c.requires in
-    (p.0, p.1, (bounded (c.args.extent ∷ []) (var 0 ∷ []) (extent_max ∷ []) (extent_max ∷ []) tt (p.2, tt)).0)
-
 pub loop-m-init : goal.loop-m-init
 loop-m-init c = rw (rows_are c.args.t c.args.p c.requires.2 c.rows-rows.ensures) (reaches_some c.requires.3)
 
-pub candidate-requires : goal.candidate-requires
-candidate-requires c =
+pub candidate-w-requires : goal.candidate-w-requires
+candidate-w-requires c =
     let p = c.requires in
-    (rows-small c.args.t c.args.p p.2 c.rows-rows.ensures p.0 p.1, below c.loop-m.invariant)
+    (rows-small c.args.t c.args.p p.2 c.rows-rows.ensures p.0 p.1, c.loop-m-test.true)
 
 pub fits-requires : goal.fits-requires
 fits-requires c =
     let p = c.requires in
     let small = rows-small c.args.t c.args.p p.2 c.rows-rows.ensures p.0 p.1 in
-    (small, candidate-small c.rows-rows.result c.loop-m.m small c.candidate.ensures)
-
-pub overflow_add-m : goal.overflow_add-m
-overflow_add-m c = omega (arith, below c.loop-m.invariant)
-
-pub loop-m-smaller : goal.loop-m-smaller
-loop-m-smaller c = omega (arith, below c.loop-m.invariant)
+    (small, candidate-small c.rows-rows.result c.loop-m.m small c.candidate-w.ensures)
 
 pub loop-m-preserved : goal.loop-m-preserved
-loop-m-preserved c = some_next c.loop-m.invariant (λ h. c.fits.ensures.no c.loop-m-test.true (subst (Fits _) (sym c.candidate.ensures) h))
+loop-m-preserved c = some_next c.loop-m.invariant (λ h. c.fits.ensures.no c.if-fits.false (subst (Fits _) (sym c.candidate-w.ensures) h))
 
-pub candidate-w-requires : goal.candidate-w-requires
-candidate-w-requires c =
-    let p = c.requires in
-    (rows-small c.args.t c.args.p p.2 c.rows-rows.ensures p.0 p.1, below c.loop-m.invariant)
-
-pub returns : goal.returns
-returns c =
+pub returns-then-fits : goal.returns-then-fits
+returns-then-fits c =
     let p = c.requires in
     let rs = c.rows-rows.result in
     let w = c.candidate-w.result in
@@ -81,6 +61,5 @@ returns c =
     let are = rows_are c.args.t c.args.p p.2 c.rows-rows.ensures in
     let b = candidate-small rs c.loop-m.m (rows-small c.args.t c.args.p p.2 c.rows-rows.ensures p.0 p.1) is in
     let field : (i : ℕ) → T (small (var i) bs) → mach (w at []) (var i) ≡ nth (w at []) i = λ i t. run (w at []) (var i) bs t (b.x, (b.y, (b.z, tt))) in
-    let fit = subst (Fits rs) (c.candidate.ensures ∙ sym is) (c.fits.ensures.yes c.loop-m-test.false) in
     weighed c.loop-m.m (is ∙ ap (λ (rs : List Point). candidate rs c.loop-m.m) are) (field 0 tt) (field 1 tt) (field 2 tt)
-    (subst (λ (rs : List Point). Fits rs w) are fit)
+    (subst (λ (rs : List Point). Fits rs w) are (c.fits.ensures.yes c.if-fits.true))
