@@ -19,7 +19,7 @@ pub struct Point {
 }
 
 // Tests a route as `route::test_route` does on the points' numbers in order. Those of 65 points are copied at most: 65
-// meet question 9 as any more would.
+// meet question 9 as any more would. The array is of a fixed size, since there is no heap.
 pub fn test_points(file: &[u8], map: &[u8], points: &[Point]) -> Result<Finding, Limit>
     ensures { (said result ≡ route_answer file.now map.now (numbers_of points.now)) × DemandOf file.now map.now (numbers_of points.now) (said result) × FirstOf file.now map.now (numbers_of points.now) (said result) }
 {

@@ -29,6 +29,7 @@ pub fn search(g: Grid, map: &[u8], slabs: &Slabs, block: BoxRange) -> Option<usi
         for j in rows.first..rows.end {
             let row = grid::cell_number(g.nx, g.ny, 0, j, k);
             let mut i = next_cell(map, row, x.first, x.end);
+            // No `for`: the next cell is the next that is filled.
             while i < x.end {
                 if slabs.touch(i, j, k) {
                     found = Some(row + i);
