@@ -2,13 +2,10 @@
 // The line of a refusal goes to standard error too, for the command that runs it.
 #![tactic(auto)]
 
-ghost use Rattle.std.specs.Prelude.{◌≡◌, ◌≤◌, length, IfOk};
-ghost use Rattle.refusal.specs.Limit.{gives};
-ghost use Rattle.frame.specs.Questions.{checked};
+ghost use Rattle.std.specs.Prelude.{◌+◌, ◌≤◌, length, IfOk};
 
-use console::{Gone, Streams};
-use frame::Checked;
-use layout::Header;
+use console::{Stopped, Streams};
+use frame::Frame;
 use std::process::ExitCode;
 
 // Lends the memory: one byte more than the longest file that can be accepted, and text to write.
@@ -18,83 +15,56 @@ fn main(rt: HostRuntime) -> ExitCode {
     console::status(answer(&rt, &mut file, &mut out))
 }
 
-// Reads the file, and shows it.
-fn answer(rt: &impl Streams, file: &mut [u8], out: &mut [u8]) -> Result<(), Gone>
+// Reads the file, and shows it, or the limit that it breaks.
+fn answer(rt: &impl Streams, file: &mut [u8], out: &mut [u8]) -> Result<(), Stopped>
     requires { 256 ≤ length out.old }
 {
-    let input = console::read_input(rt, file);
-    if !input.whole {
-        return Ok(());
-    }
-    let len = input.len;
-    show(rt, &file[..len], out)
-}
-
-// Shows a file, or the limit that it breaks.
-fn show(rt: &impl Streams, file: &[u8], out: &mut [u8]) -> Result<(), Gone>
-    requires { 256 ≤ length out.old }
-{
-    match frame::check(file) {
-        Checked::Accepted(header) => {
-            if show_header(rt, file, header, out)? {
-                show_records(rt, file, header, out)?;
-            }
-            Ok(())
+    let len = console::read_input(rt, file)?;
+    match Frame::check(&file[..len]) {
+        Ok(frame) => {
+            show_header(rt, &frame, out)?;
+            show_records(rt, &frame, out)
         }
-        Checked::Refused(limit) => {
+        Err(limit) => {
             let line = listing::put_refusal(limit, out);
             console::refuse(rt, out, line)
         }
     }
 }
 
-// Shows the grid's values and the count of triangles, and answers whether they were taken.
-fn show_header(rt: &impl Streams, file: &[u8], header: Header, out: &mut [u8]) -> Result<bool, Gone>
-    requires { (checked file.now ≡ gives header) × (256 ≤ length out.old) }
+// Shows the grid's values and the count of triangles.
+fn show_header(rt: &impl Streams, frame: &Frame<'_>, out: &mut [u8]) -> Result<(), Stopped>
+    requires { 256 ≤ length out.old }
 {
     let grid =
         b"# Cells along x, y and z; cell edge; origin x, y and z; triangle count. Lengths are in millimetres.\n";
-    if !console::send(rt, grid, grid.len())? {
-        return Ok(false);
-    }
-    let line = frame_text::put_grid(out, header);
-    if !console::send(rt, out, line)? {
-        return Ok(false);
-    }
+    console::send(rt, grid, grid.len())?;
+    let line = frame_text::put_grid(out, frame.header());
+    console::send(rt, out, line)?;
     let each = b"# Of each triangle: kind; x, y and z of three corners.\n";
     console::send(rt, each, each.len())
 }
 
 // Shows the records, one buffer after the other, until a write fails.
-fn show_records(rt: &impl Streams, file: &[u8], header: Header, out: &mut [u8]) -> Result<(), Gone>
-    requires { checked file.now ≡ gives header }
+fn show_records(rt: &impl Streams, frame: &Frame<'_>, out: &mut [u8]) -> Result<(), Stopped>
+    requires { 256 ≤ length out.old }
 {
-    let mut at: usize = 0;
-    let mut i = 0;
-    while i < header.count {
+    let mut at = 0;
+    for i in 0..frame.header().count {
         let place = make_room(rt, out, at)?;
-        if out.len() - place < 136 {
-            return Ok(());
-        }
-        at = frame_text::put_record(out, place, frame::record(file, i));
-        i += 1;
+        at = frame_text::put_record(out, place, frame.one_record(i));
     }
-    console::send(rt, out, at)?;
-    Ok(())
+    console::send(rt, out, at)
 }
 
-// Where the next line goes: behind the others, or at the start, where they had to be written first. Where the write failed,
-// at the end.
-fn make_room(rt: &impl Streams, out: &[u8], at: usize) -> Result<usize, Gone>
-    requires { at ≤ length out.now }
-    ensures { IfOk result (λ place. place ≤ length out.now) }
+// Where the next line goes: behind the others, or at the start, where they had to be written first.
+fn make_room(rt: &impl Streams, out: &[u8], at: usize) -> Result<usize, Stopped>
+    requires { (at ≤ length out.now) × (136 ≤ length out.now) }
+    ensures { IfOk result (λ place. place + 136 ≤ length out.now) }
 {
-    let len = out.len();
-    if 136 <= len - at {
+    if 136 <= out.len() - at {
         return Ok(at);
     }
-    if console::send(rt, out, at)? {
-        return Ok(0);
-    }
-    Ok(len)
+    console::send(rt, out, at)?;
+    Ok(0)
 }

@@ -1,11 +1,7 @@
 -- `show_records` shows records that an accepted file has, whose numbers are small, each where a line has room.
 use Rattle.std.proofs.Common.{arith}
-use Rattle.frame.proofs.Accepted.{accepted}
 use Rattle.numbers.proofs.Readings.{record-small}
 use Rattle.show_frame.proofs.show_records.Goals as goal
 
-pub record-requires : goal.record-requires
-record-requires g c = (accepted c.args.file.now c.args.header c.requires).records c.loop-i.i (omega arith)
-
 pub put_record-at-requires : goal.put_record-at-requires
-put_record-at-requires g c = (rw c.record.ensures (record-small c.args.file.now c.loop-i.i), omega (arith, c.in_ok-place.ensures))
+put_record-at-requires g c = (rw c.one_record.ensures (record-small c.args.frame.now.file.now c.loop-i.i), omega (arith, c.in_ok-place.ensures))
