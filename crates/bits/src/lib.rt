@@ -148,8 +148,8 @@ impl Pen {
         }
     }
 
-    // Puts an unsigned field of `width` bits, and hands the pen behind it back. Whole bytes go out at once.
-    // By value, as the cursor: a rule of the project (docs/DECISIONS.md, forms).
+    // Puts an unsigned field of `width` bits, and hands the pen behind it back. Whole bytes go out at once: the bits that are left count them, and a
+    // `for` over their number is no plainer. By value, as the cursor: a rule of the project (docs/DECISIONS.md, forms).
     pub fn put(self, out: &mut [u8], width: usize, value: u64) -> Pen
         requires { Room out.old self width × (value < 2 ^ width) }
         ensures { Put out.old self width value out.new result }

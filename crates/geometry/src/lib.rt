@@ -1,7 +1,7 @@
 // Points and triangles with whole-number coordinates.
 #![tactic(auto)]
 
-// A point, or a vector.
+// A point, or a vector. How large its numbers are stands in the contracts, and not in the type: normals and differences are points too, and larger.
 #[derive(Clone, Copy)]
 pub struct Point {
     pub x: i64,

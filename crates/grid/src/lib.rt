@@ -10,7 +10,8 @@ ghost use Rattle.grid.specs.Usable.{GridWithin};
 
 use geometry::Point;
 
-// nx × ny × nz cells with edge `edge`, from the point `origin` on.
+// nx × ny × nz cells with edge `edge`, from the point `origin` on. That its numbers are usable stands in the contracts: a file's header is read into a
+// grid before it is asked.
 #[derive(Clone, Copy)]
 pub struct Grid {
     pub nx: usize,
@@ -20,7 +21,8 @@ pub struct Grid {
     pub origin: Point,
 }
 
-// The boxes of a grid's cells: the lowest corner of the first, how far apart the boxes of neighbours begin, and how large a box is.
+// The boxes of a grid's cells: the lowest corner of the first, how far apart the boxes of neighbours begin, and how large a box is. `lattice_of` makes one
+// of every grid, and so asks nothing: that a lattice is usable stands in the contracts of those who compute with it.
 #[derive(Clone, Copy)]
 pub struct Lattice {
     pub first: Point,

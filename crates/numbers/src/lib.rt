@@ -8,7 +8,7 @@ ghost use Rattle.numbers.specs.Inner.{Small};
 use geometry::Triangle;
 use layout::{Header, Record};
 
-// The header's values, as they are put out.
+// The header's values, as they are put out: a list, as the calls for C have it.
 pub fn header_numbers(header: Header) -> [i32; 9]
     requires { Small (header_numbers header) }
     ensures { result ≡ header_numbers header }
