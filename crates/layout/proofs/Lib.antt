@@ -1,4 +1,4 @@
--- The kind's place.
+-- What fields taken one behind the other make.
 pub mod Taken
 -- What holds of a header and of a record whatever the bytes are.
 pub mod Bounds
