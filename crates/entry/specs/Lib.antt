@@ -1,3 +1,4 @@
+pub mod Ratio
 pub mod Entry
 -- inner
 pub mod Parts

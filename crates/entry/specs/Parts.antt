@@ -1,12 +1,8 @@
--- The numbers of a fraction, and of how a leg comes to boxes on an axis; and how large they are. Definitions only.
+-- How a leg comes to boxes on an axis, and how large the numbers are. Definitions only.
 use Rattle.std.specs.Prelude.{ℕ, ◌^◌, ℤ, pos, ◌<ℤ◌}
 use Rattle.integers.specs.Within.{Within}
 use Rattle.geometry.specs.Bounds.{step_max}
-
--- num / den, where den is positive. It need not be in lowest terms.
-pub record Ratio : Type 0 where
-  pub num : ℤ
-  pub den : ℤ
+use Rattle.entry.specs.Ratio.{Ratio}
 
 -- To box i at (num + slope × i) / den.
 pub record Approach : Type 0 where

@@ -21,7 +21,8 @@ pub struct Fraction {
 
 // The numbers of a fraction are so small that two of them are compared within 64 bits.
 impl Model for Fraction {
-    ghost use Rattle.entry.specs.Parts.{Ratio, BoundedRatio};
+    ghost use Rattle.entry.specs.Ratio.{Ratio};
+    ghost use Rattle.entry.specs.Parts.{BoundedRatio};
 
     ghost Value = { Ratio };
 

@@ -7,7 +7,8 @@ use Rattle.integers.specs.Within.{Withins}
 use Rattle.integers.proofs.Expr.{Expr, var, ◌⊗◌}
 use Rattle.integers.proofs.Machine.{mach, run}
 use Rattle.geometry.specs.Bounds.{each}
-use Rattle.entry.specs.Parts.{Ratio, fraction_max}
+use Rattle.entry.specs.Ratio.{Ratio}
+use Rattle.entry.specs.Parts.{fraction_max}
 use Rattle.entry.specs.Entry.{over, earlier}
 use Rattle.entry.proofs.Fraction.is_earlier.Goals as goal
 

@@ -1,6 +1,6 @@
 -- `entry::Fraction::later_by`: the greater of the two, by the test.
 use mathlib.Core.Path.{◌≡◌, sym, ◌∙◌, subst}
-use Rattle.entry.specs.Parts.{Ratio}
+use Rattle.entry.specs.Ratio.{Ratio}
 use Rattle.entry.specs.Entry.{later}
 use Rattle.entry.proofs.Fraction.later_by.Goals as goal
 
