@@ -14,24 +14,24 @@ use lib.IntN.{ℤ}
 use lib.ListN.{length, drop, set}
 use Rattle.refusal.specs.Limit.{Answer, gives, refused}
 use Rattle.layout.specs.Layout.{version1}
-use Rattle.layout.proofs.Bounds.{version1-usable, count-lt}
+use Rattle.layout.proofs.Bounds.{count-lt}
 use Rattle.frame.specs.File.{header_of}
 use Rattle.frame.specs.Questions.{file_questions}
-use Rattle.weights.specs.declared.Weights.{Weights}
 use Rattle.pack.proofs.Unpack.{tag_back, low-back, Fits, refusal-back}
 use Rattle.pack.proofs.Fitting.{fit_append, answered-fits}
 use Rattle.pack.proofs.File.{file-fits}
-use Rattle.service.specs.declared.BarAnswer.TheVariants.{Bar}
-use Rattle.service.specs.Bar.{BehindCell, clear, bar, cell_question, bar_questions, behind, Shown}
+use Rattle.std.specs.Prelude.{Option, Some, None, Ok}
+use Rattle.service.specs.declared.Bar.{Bar}
+use Rattle.service.specs.Bar.{cell_question, bar_questions, behind, Shown}
 use Rattle.service.proofs.Lowest.{lowest-below}
 use Rattle.service.proofs.Answers.{finding}
 use Rattle.desk.specs.Bar.{BarOutcome, wrote_bar, short_bar, clear_cell, bar_roomed, packed_bar, unpacked_bar, with_weights, BarLeft}
 use Rattle.desk.specs.Inner.{bar_list}
 
 -- ---- what fits
-abbrev FitsBehind : BehindCell → Type 0
-FitsBehind clear = Unit {0}
-FitsBehind (bar i) = i < 2 ^ 32
+abbrev FitsBehind : Option ℕ → Type 0
+FitsBehind None = Unit {0}
+FitsBehind (Some i) = i < 2 ^ 32
 
 abbrev FitsOutcome : BarOutcome → Type 0
 FitsOutcome (wrote_bar i) = i < 2 ^ 32
@@ -39,17 +39,17 @@ FitsOutcome (short_bar n) = n < 2 ^ 32
 FitsOutcome clear_cell = Unit {0}
 
 module _ (s : List ℕ) (n : ℕ) where
-  finding-fits : (f : BehindCell) → finding s n ≡ f → FitsBehind f
-  finding-fits clear e = tt
-  finding-fits (bar i) e = let l = lowest-below _ (header_of s).count i e in omega (arith, count-lt version1 version1-usable s)
+  finding-fits : (f : Option ℕ) → finding s n ≡ f → FitsBehind f
+  finding-fits None e = tt
+  finding-fits (Some i) e = let l = lowest-below _ (header_of s).count i e in omega (arith, count-lt version1 s)
 
   behind-fits : Fits FitsBehind (behind s n)
   unfolding behind
   behind-fits = answered-fits FitsBehind (finding s n) (bar_questions s n) (fit_append (file_questions s) (cell_question (header_of s).grid n ∷ []) (file-fits s) ((lit< tt, lit< tt), tt)) (finding-fits (finding s n) refl)
 
-roomed-fits : (a : Answer BehindCell) (room : ℕ) → Fits FitsBehind a → Fits FitsOutcome (bar_roomed a room)
-roomed-fits (gives clear) room h = tt
-roomed-fits (gives (bar i)) room h = go (leb 3 room)
+roomed-fits : (a : Answer (Option ℕ)) (room : ℕ) → Fits FitsBehind a → Fits FitsOutcome (bar_roomed a room)
+roomed-fits (gives None) room h = tt
+roomed-fits (gives (Some i)) room h = go (leb 3 room)
   where
     go : (b : Bool) → FitsOutcome (cond b (wrote_bar i) (short_bar 3))
     go true = h
@@ -73,19 +73,19 @@ module _ (s : List ℕ) (n : ℕ) (old : List ℤ) where
   abbrev pub Promise : (r : ℕ) (new : List ℤ) → Type 0
   Promise r new = (r ≡ packed_bar outcome) × (unpacked_bar r ≡ outcome) × BarLeft s n (unpacked_bar r) old new
 
-  pub told : (b : Answer BehindCell) {r : ℕ} (new : List ℤ) → b ≡ behind s n → r ≡ packed_bar (bar_roomed b (length old)) → BarLeft s n (bar_roomed b (length old)) old new → Promise r new
+  pub told : (b : Answer (Option ℕ)) {r : ℕ} (new : List ℤ) → b ≡ behind s n → r ≡ packed_bar (bar_roomed b (length old)) → BarLeft s n (bar_roomed b (length old)) old new → Promise r new
   told b {r} new said packs left =
-      let same : bar_roomed b (length old) ≡ outcome = ap (λ (x : Answer BehindCell). bar_roomed x (length old)) said in
+      let same : bar_roomed b (length old) ≡ outcome = ap (λ (x : Answer (Option ℕ)). bar_roomed x (length old)) said in
       let e = packs ∙ ap packed_bar same in
       let back = ap unpacked_bar e ∙ bar-back outcome (roomed-fits (behind s n) (length old) (behind-fits s n)) in
       (e, back, subst (λ (o : Answer BarOutcome). BarLeft s n o old new) (same ∙ sym back) left)
 
   -- a bar, by the room
-  pub bar-left : (new : List ℤ) (i : ℕ) (w : Weights) → Shown s n (Bar i w) → new ≡ bar_list w old → BarLeft s n (bar_roomed (gives (bar i)) (length old)) old new
-  bar-left new i w shown e = go (leb 3 (length old)) e
+  pub bar-left : (new : List ℤ) (b : Bar) → Shown s n (Ok (Some b)) → new ≡ bar_list b.weights old → BarLeft s n (bar_roomed (gives (Some b.index)) (length old)) old new
+  bar-left new b shown e = go (leb 3 (length old)) e
     where
-      go : (b : Bool) → new ≡ cond b (with_weights w old) old → BarLeft s n (gives (cond b (wrote_bar i) (short_bar 3))) old new
-      go true e = record { weights = w; shown = shown; is = e }
+      go : (t : Bool) → new ≡ cond t (with_weights b.weights old) old → BarLeft s n (gives (cond t (wrote_bar b.index) (short_bar 3))) old new
+      go true e = record { weights = b.weights; shown = shown; is = e }
       go false e = e
 
 -- ---- the weights are stored

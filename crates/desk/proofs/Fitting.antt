@@ -20,8 +20,8 @@ use Rattle.pack.proofs.Fitting.{FitAll, fit_append, fit-each, answered-fits}
 use Rattle.frame_write.specs.declared.GridValues.{GridValues}
 use Rattle.frame_write.specs.Write.{grid_from, write_questions, writing, written_bytes}
 use Rattle.frame_write.proofs.Asked.{admitted}
-use Rattle.ply_header.specs.declared.Header.{Header}
-use Rattle.ply_header.specs.declared.Header.TheVariants.{Taken, Other}
+use Rattle.std.specs.Prelude.{Option, Some, None}
+use Rattle.ply_header.specs.declared.Form.{Form}
 use Rattle.ply.specs.Body.{taken, vertex_question, face_question}
 use Rattle.ply.proofs.Taken.{counts, sized}
 use Rattle.scan.specs.Scan.{triangles, ply_questions, scanned_as, scanned, grid_fits, writing_of, scanning, scan_bytes}
@@ -56,15 +56,15 @@ module _ (s : List ℕ) (short : length s < 2 ^ 32) where
   unfolding scanned
   scanned-fits = go (taken s) refl
     where
-      go : (h : Header) → taken s ≡ h → Fits FitsAlways (scanned_as s h)
-      go (Taken f) e =
+      go : (h : Option Form) → taken s ≡ h → Fits FitsAlways (scanned_as s h)
+      go (Some f) e =
           let few = counts s f (sized s f e).end in
           answered-fits FitsAlways (triangles s f) (ply_questions s f)
           (fit_append (of_each (vertex_question s f) f.vertices) (of_each (face_question s f) f.faces)
           (fit-each (vertex_question s f) f.vertices (λ i l. (lit< tt, omega (arith, few.0))))
           (fit-each (face_question s f) f.faces (λ i l. (lit< tt, omega (arith, few.1)))))
           tt
-      go Other e = (lit< tt, lit< tt)
+      go None e = (lit< tt, lit< tt)
 
   by-file : (g : GridValues) (room : ℕ) (a : Answer (List ℤ)) → Fits FitsAlways a → Fits FitsCount (writing_of g a room)
   by-file g room (gives zs) h = writing-fits g zs room

@@ -5,13 +5,13 @@ use mathlib.Core.Path.{◌≡◌, refl}
 use lib.IntN.{ℤ, pos}
 use lib.ListN.{replicate}
 use Rattle.refusal.specs.Limit.{gives, refused}
-use Rattle.service.specs.Bar.{clear, bar}
+use Rattle.std.specs.Prelude.{Some, None}
 use Rattle.desk.specs.Bar.{bar_roomed, packed_bar, with_weights}
 use Rattle.desk.specs.Calls.{list_writing, list_bytes, list_scanning, list_scan_bytes}
 
 -- record 4,094 with room for three weights, and for two; clear; cell 8 of 8
 pub bars :
-    (packed_bar (bar_roomed (gives (bar 4094)) 3) ∷ packed_bar (bar_roomed (gives (bar 4094)) 2) ∷ packed_bar (bar_roomed (gives clear) 0) ∷ packed_bar (bar_roomed (refused 16 0) 3) ∷ [])
+    (packed_bar (bar_roomed (gives (Some 4094)) 3) ∷ packed_bar (bar_roomed (gives (Some 4094)) 2) ∷ packed_bar (bar_roomed (gives None) 0) ∷ packed_bar (bar_roomed (refused 16 0) 3) ∷ [])
     ≡ (0x0000000000000ffe ∷ 0x0400000000000003 ∷ 0x0500000000000000 ∷ 0x0110000000000000 ∷ [])
 bars = refl
 

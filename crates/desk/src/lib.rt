@@ -2,18 +2,16 @@
 // number. It is an archive of its own, so that the controller's has what runs on the controller alone.
 #![tactic(auto)]
 
-ghost use Rattle.std.specs.Prelude.{◌≡◌, ◌<◌, ◌^◌, length};
+ghost use Rattle.std.specs.Prelude.{Some, ◌≡◌, ◌<◌, ◌^◌, length};
 ghost use Rattle.pack.specs.Pack.{packed_count, unpacked_count};
 ghost use Rattle.refusal.specs.Limit.{gives};
-ghost use Rattle.service.specs.Bar.{bar, behind};
-ghost use Rattle.frame_write.specs.Write.{said_written};
+ghost use Rattle.service.specs.Bar.{behind};
 ghost use Rattle.desk.specs.Calls.{list_writing, list_bytes, list_scanning, list_scan_bytes};
 ghost use Rattle.desk.specs.Bar.{bar_roomed, packed_bar, unpacked_bar, BarLeft};
 ghost use Rattle.desk.specs.Inner.{bar_list};
 
-use frame_write::Written;
 use refusal::Limit;
-use service::BarAnswer;
+use service::Bar;
 use weights::Weights;
 
 // Writes the frame file of a grid's seven numbers and of triangles, ten numbers each. The answer is the file's length, with
@@ -25,7 +23,7 @@ pub extern "C" fn desk_write(grid: &[i32], triangles: &[i32], out: &mut [u8]) ->
     if grid.len() != 7 {
         return pack::pack_limit(Limit::Unwritable);
     }
-    pack_written(frame_write::write(frame_write::grid_from(grid), triangles, out))
+    pack::pack_count(frame_write::write(frame_write::grid_from(grid), triangles, out))
 }
 
 // Makes the frame file of a grid's seven numbers and of a scanner's file, in the PLY format. The answer is as for the writer; a refusal
@@ -37,17 +35,7 @@ pub extern "C" fn desk_scan(ply: &[u8], grid: &[i32], out: &mut [u8]) -> u64
     if grid.len() != 7 {
         return pack::pack_limit(Limit::Unwritable);
     }
-    pack_written(scan::scan(ply, frame_write::grid_from(grid), out))
-}
-
-// What a writing answers, packed.
-fn pack_written(written: Written) -> u64
-    ensures { result ≡ packed_count (said_written written) }
-{
-    match written {
-        Written::Length(n) => pack::pack(0, 0, 0, n),
-        Written::Refused(limit) => pack::pack_limit(limit),
-    }
+    pack::pack_count(scan::scan(ply, frame_write::grid_from(grid), out))
 }
 
 // The bar behind a cell: the lowest triangle that reaches it. The answer is the record's number, with 0 in the top byte, and three
@@ -58,24 +46,22 @@ pub extern "C" fn desk_bar(file: &[u8], cell: usize, weights: &mut [i64]) -> u64
     ensures { (result ≡ packed_bar (bar_roomed (behind file.now cell) (length weights.old))) × (unpacked_bar result ≡ bar_roomed (behind file.now cell) (length weights.old)) × BarLeft file.now cell (unpacked_bar result) weights.old weights.new }
 {
     match service::behind(file, cell) {
-        BarAnswer::Clear => pack::pack(5, 0, 0, 0),
-        BarAnswer::Bar(i, w) => write_bar(i, w, weights),
-        BarAnswer::Refused(limit) => pack::pack_limit(limit),
+        Ok(Some(bar)) => write_bar(bar, weights),
+        Ok(None) => pack::pack(5, 0, 0, 0),
+        Err(limit) => pack::pack_limit(limit),
     }
 }
 
 // A bar's weights into the list, where it has room for them.
-fn write_bar(i: usize, w: Weights, weights: &mut [i64]) -> u64
-    ensures { (result ≡ packed_bar (bar_roomed (gives (bar i)) (length weights.old))) × (weights.new ≡ bar_list w weights.old) }
+fn write_bar(bar: Bar, weights: &mut [i64]) -> u64
+    ensures { (result ≡ packed_bar (bar_roomed (gives (Some bar.index)) (length weights.old))) × (weights.new ≡ bar_list bar.weights weights.old) }
 {
     if weights.len() < 3 {
         return pack::pack(4, 0, 0, 3);
     }
-    let w0 = w.w0;
-    let w1 = w.w1;
-    let w2 = w.w2;
+    let Weights { w0, w1, w2 } = bar.weights;
     weights[0] = w0;
     weights[1] = w1;
     weights[2] = w2;
-    pack::pack(0, 0, 0, i)
+    pack::pack(0, 0, 0, bar.index)
 }

@@ -7,7 +7,7 @@ use native.Mathlib.Omega.{arith}
 use lib.Dec.{lit<}
 use Rattle.refusal.specs.Questions.{of_each}
 use Rattle.layout.specs.Layout.{version1}
-use Rattle.layout.proofs.Bounds.{version1-usable, header-bounded}
+use Rattle.layout.proofs.Bounds.{header-bounded}
 use Rattle.frame.specs.File.{header_of}
 use Rattle.frame.specs.Questions.{header_questions, kind_question, file_questions}
 use Rattle.pack.proofs.Fitting.{FitAll, fit_append, fit-each}
@@ -21,4 +21,4 @@ file-fits s =
     let h = header_of s in
     fit_append (header_questions version1 h s) (of_each (kind_question version1 s) h.count)
     (few (omega arith), (few (omega arith), (few (omega arith), (few (omega arith), (few (omega arith), (few (omega arith), tt))))))
-    (fit-each (kind_question version1 s) h.count (λ i l. (lit< tt, omega (arith, (header-bounded version1 version1-usable s).count))))
+    (fit-each (kind_question version1 s) h.count (λ i l. (lit< tt, omega (arith, (header-bounded version1 s).count))))

@@ -19,7 +19,7 @@ use Rattle.refusal.specs.Questions.{answered, of_each}
 use Rattle.refusal.specs.Inner.{Passing, asked}
 use Rattle.frame.specs.Questions.{file_questions, reading}
 use Rattle.refusal.proofs.Asking.{stopped, through, and_then, first-append}
-use Rattle.layout.proofs.Bounds.{version1-usable, header-bounded}
+use Rattle.layout.proofs.Bounds.{header-bounded}
 use Rattle.grid.specs.Grid.{cell_count}
 use Rattle.grid.specs.declared.Grid.{Grid}
 use Rattle.geometry.specs.declared.Point.{Point}
@@ -28,7 +28,9 @@ use Rattle.map.proofs.Counts.{count_most}
 use Rattle.fill.specs.Fill.{grid_of, filled_in, map_question, fill_questions, filling}
 use Rattle.steps.specs.Steps.{beginning, joining, ending}
 use Rattle.steps.proofs.Joined.{present-most}
-use Rattle.demand.specs.Route.{point_count, points_of, Finding, free, blocked, tested, count_fits, point_question, point_questions, route_answer}
+use Rattle.demand.specs.Route.{point_count, points_of, tested, count_fits, point_question, point_questions, route_answer}
+use Rattle.demand.specs.declared.Finding.{Finding}
+use Rattle.demand.specs.declared.Finding.TheVariants.{Free, Blocked}
 use Rattle.demand.proofs.Points.{points-length}
 use Rattle.demand.proofs.Demand.{blocked-in}
 use Rattle.pack.proofs.Unpack.{Fits, FitsCount, FitsAlways}
@@ -51,7 +53,7 @@ module _ (s : List ℕ) where
   fill-fits len = fit_append (file_questions s) (map_question (grid_of s) len ∷ []) (file-fits s) ((lit< tt, lit< tt), tt)
 
   cells-most : cell_count (grid_of s) ≤ 64 * 64 * 64
-  cells-most = let g = (header-bounded version1 version1-usable s).grid in mul-le-mul (mul-le-mul g.x.most g.y.most) g.z.most
+  cells-most = let g = (header-bounded version1 s).grid in mul-le-mul (mul-le-mul g.x.most g.y.most) g.z.most
 
   -- ---- the calls
   pub reading-fits : (i : ℕ) → Fits FitsAlways (reading s i)
@@ -63,7 +65,7 @@ module _ (s : List ℕ) where
   count-fits len = answered-fits FitsCount _ (fill_questions s len) (fill-fits len)
 
   count-lt : h.count < 4096
-  count-lt = (header-bounded version1 version1-usable s).count
+  count-lt = (header-bounded version1 s).count
 
   few-filled : (p : ℕ → Bool) → count_below p (cell_count (grid_of s)) < 2 ^ 32
   few-filled p = omega (arith, cells-most, count_most p (cell_count (grid_of s)))
@@ -88,8 +90,8 @@ finding-fits : (filled : ℕ → Bool) (g : Grid) (ps : List Point) → length p
 finding-fits filled g ps few-points few-cells = go (tested filled g ps) refl
   where
     go : (f : Finding) → tested filled g ps ≡ f → FitsFinding f
-    go free e = tt
-    go (blocked m n) e = let (lm, ln, hit) = blocked-in filled g ps m n e in (omega (arith, lm), omega (arith, ln))
+    go Free e = tt
+    go (Blocked m n) e = let (lm, ln, hit) = blocked-in filled g ps m n e in (omega (arith, lm), omega (arith, ln))
 
 module _ (s m : List ℕ) (ns : List ℤ) where
   finding : Finding

@@ -1,11 +1,11 @@
 // The library for a controller's program in C or Rust: each call's answer packed into one number.
 #![tactic(auto)]
 
-ghost use Rattle.std.specs.Prelude.{◌++◌, ◌≡◌, length};
+ghost use Rattle.std.specs.Prelude.{Some, None, ◌++◌, ◌≡◌, length};
 ghost use Rattle.refusal.specs.Limit.{gives};
-ghost use Rattle.frame.specs.Questions.{with_record, no_record, reading};
+ghost use Rattle.frame.specs.Questions.{reading};
 ghost use Rattle.fill.specs.Fill.{filling, filled_bytes};
-ghost use Rattle.steps.specs.Steps.{beginning, begun_bytes, joining, joined_bytes, ending, said_step};
+ghost use Rattle.steps.specs.Steps.{beginning, begun_bytes, joining, joined_bytes, ending};
 ghost use Rattle.demand.specs.Route.{route_answer};
 ghost use Rattle.demand.specs.Demand.{DemandOf, FirstOf};
 ghost use Rattle.numbers.specs.Numbers.{header_numbers, record_numbers, read_numbers, written};
@@ -13,11 +13,8 @@ ghost use Rattle.numbers.specs.Inner.{Small};
 ghost use Rattle.pack.specs.Pack.{packed_count, unpacked_count};
 ghost use Rattle.stall.specs.Calls.{packed_route, unpacked_route, roomed, packed_reading, unpacked_reading};
 
-use fill::Filling;
-use frame::Reading;
+use demand::Finding;
 use layout::{Header, Record};
-use route::RouteAnswer;
-use steps::Step;
 
 // The fill. The answer is the number of filled cells, with 0 in the top byte; or 1 in the top byte, the limit's number
 // in the next, and the place in the low 32 bits.
@@ -25,10 +22,7 @@ use steps::Step;
 pub extern "C" fn stall_fill(file: &[u8], map: &mut [u8]) -> u64
     ensures { (result ≡ packed_count (filling file.now map.old)) × (unpacked_count result ≡ filling file.now map.old) × (map.new ≡ filled_bytes file.now map.old) }
 {
-    match fill::fill(file, map) {
-        Filling::Filled(n) => pack::pack(0, 0, 0, n),
-        Filling::Refused(limit) => pack::pack_limit(limit),
-    }
+    pack::pack_count(fill::fill(file, map))
 }
 
 // Begins a fill in steps: the map is emptied. The answer is the number of records, packed as the fill's count is.
@@ -36,7 +30,7 @@ pub extern "C" fn stall_fill(file: &[u8], map: &mut [u8]) -> u64
 pub extern "C" fn stall_fill_begin(file: &[u8], map: &mut [u8]) -> u64
     ensures { (result ≡ packed_count (beginning file.now map.old)) × (unpacked_count result ≡ beginning file.now map.old) × (map.new ≡ begun_bytes file.now map.old) }
 {
-    pack_step(steps::begin(file, map))
+    pack::pack_count(steps::begin(file, map))
 }
 
 // A step of a fill: the cells of `count` records from number `first` on join the map. The answer is how many of these the
@@ -45,7 +39,7 @@ pub extern "C" fn stall_fill_begin(file: &[u8], map: &mut [u8]) -> u64
 pub extern "C" fn stall_fill_some(file: &[u8], map: &mut [u8], first: usize, count: usize) -> u64
     ensures { (result ≡ packed_count (joining file.now map.old first count)) × (unpacked_count result ≡ joining file.now map.old first count) × (map.new ≡ joined_bytes file.now map.old first count) }
 {
-    pack_step(steps::some(file, map, first, count))
+    pack::pack_count(steps::some(file, map, first, count))
 }
 
 // Ends a fill in steps. The answer is the number of filled cells.
@@ -53,17 +47,7 @@ pub extern "C" fn stall_fill_some(file: &[u8], map: &mut [u8], first: usize, cou
 pub extern "C" fn stall_fill_end(file: &[u8], map: &[u8]) -> u64
     ensures { (result ≡ packed_count (ending file.now map.now)) × (unpacked_count result ≡ ending file.now map.now) }
 {
-    pack_step(steps::end(file, map))
-}
-
-// A step's answer, packed.
-fn pack_step(step: Step) -> u64
-    ensures { result ≡ packed_count (said_step step) }
-{
-    match step {
-        Step::Done(n) => pack::pack(0, 0, 0, n),
-        Step::Refused(limit) => pack::pack_limit(limit),
-    }
+    pack::pack_count(steps::end(file, map))
 }
 
 // The route test. The answer has 2 in the top byte for a free route; 3 for a blocked one, with the leg in bits 32 to 47
@@ -73,9 +57,9 @@ pub extern "C" fn stall_route(file: &[u8], map: &[u8], numbers: &[i16]) -> u64
     ensures { (result ≡ packed_route (route_answer file.now map.now numbers.now)) × (unpacked_route result ≡ route_answer file.now map.now numbers.now) × DemandOf file.now map.now numbers.now (unpacked_route result) × FirstOf file.now map.now numbers.now (unpacked_route result) }
 {
     match route::test_route(file, map, numbers) {
-        RouteAnswer::Free => pack::pack(2, 0, 0, 0),
-        RouteAnswer::Blocked(m, n) => pack::pack(3, 0, m, n),
-        RouteAnswer::Refused(limit) => pack::pack_limit(limit),
+        Ok(Finding::Free) => pack::pack(2, 0, 0, 0),
+        Ok(Finding::Blocked { leg, cell }) => pack::pack(3, 0, leg, cell),
+        Err(limit) => pack::pack_limit(limit),
     }
 }
 
@@ -87,16 +71,18 @@ pub extern "C" fn stall_read(file: &[u8], i: usize, out: &mut [i32]) -> u64
     ensures { (result ≡ packed_reading (roomed (reading file.now i) (length out.old))) × (unpacked_reading result out.new ≡ roomed (reading file.now i) (length out.old)) × (out.new ≡ written (read_numbers (reading file.now i)) out.old) }
 {
     match frame::read(file, i) {
-        Reading::Found(header, record) => write_both(header, record, out),
-        Reading::NoRecord(header) => write_header(header, out),
-        Reading::Refused(limit) => pack::pack_limit(limit),
+        Ok(reading) => match reading.found {
+            Some(rec) => write_both(reading.header, rec, out),
+            None => write_header(reading.header, out),
+        },
+        Err(limit) => pack::pack_limit(limit),
     }
 }
 
 // The header's numbers into `out`, where it has room for them.
 fn write_header(header: Header, out: &mut [i32]) -> u64
     requires { Small (header_numbers header) }
-    ensures { (result ≡ packed_reading (roomed (gives (no_record header)) (length out.old))) × (out.new ≡ written (header_numbers header) out.old) }
+    ensures { (result ≡ packed_reading (roomed (gives (record { header = header; found = None })) (length out.old))) × (out.new ≡ written (header_numbers header) out.old) }
 {
     if out.len() < 9 {
         return pack::pack(4, 0, 0, 9);
@@ -108,7 +94,7 @@ fn write_header(header: Header, out: &mut [i32]) -> u64
 // The header's numbers and a record's into `out`, where it has room for both.
 fn write_both(header: Header, rec: Record, out: &mut [i32]) -> u64
     requires { Small (header_numbers header) × Small (record_numbers rec) }
-    ensures { (result ≡ packed_reading (roomed (gives (with_record header rec)) (length out.old))) × (out.new ≡ written (header_numbers header ++ record_numbers rec) out.old) }
+    ensures { (result ≡ packed_reading (roomed (gives (record { header = header; found = Some rec })) (length out.old))) × (out.new ≡ written (header_numbers header ++ record_numbers rec) out.old) }
 {
     if out.len() < 19 {
         return pack::pack(4, 0, 0, 19);

@@ -21,5 +21,5 @@ returns c =
     let given = scan-seven a.grid.now a.out.now a.ply.now (eq-eqb (length a.grid.now) 7 c.if-grid-ne7.false) in
     let said = c.scan.ensures.0 ∙ ap (λ (v : GridValues). scanning v a.ply.now (length a.out.now)) c.grid_from.ensures ∙ given.0 in
     let left = c.scan.ensures.1 ∙ ap (λ (v : GridValues). scan_bytes v a.ply.now a.out.now) c.grid_from.ensures ∙ given.1 in
-    let e = c.pack_written.ensures ∙ ap packed_count said in
+    let e = c.pack_count.ensures ∙ ap packed_count said in
     (e, λ short. counted (scan-fits a.ply.now short a.grid.now (length a.out.now)) e, left)

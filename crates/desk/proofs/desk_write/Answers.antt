@@ -21,5 +21,5 @@ returns c =
     let given = seven a.grid.now a.out.now a.triangles.now (eq-eqb (length a.grid.now) 7 c.if-grid-ne7.false) in
     let said = c.write.ensures.0 ∙ ap (λ (v : GridValues). writing v a.triangles.now (length a.out.now)) c.grid_from.ensures ∙ given.0 in
     let left = c.write.ensures.1 ∙ ap (λ (v : GridValues). written_bytes v a.triangles.now a.out.now) c.grid_from.ensures ∙ given.1 in
-    let e = c.pack_written.ensures ∙ ap packed_count said in
+    let e = c.pack_count.ensures ∙ ap packed_count said in
     (e, counted (list-fits a.grid.now a.triangles.now (length a.out.now)) e, left)

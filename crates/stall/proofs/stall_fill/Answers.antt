@@ -5,12 +5,8 @@ use Rattle.pack.proofs.Unpack.{counted}
 use Rattle.stall.proofs.Fitting.{filling-fits}
 use Rattle.stall.proofs.stall_fill.Goals as goal
 
-pub returns-in-Filled : goal.returns-in-Filled
-returns-in-Filled c =
-    let e = c.pack.ensures ∙ ap packed_count c.in-Filled.ensures.0 in
-    (e, counted (filling-fits c.args.file.now c.args.map.now) e, c.in-Filled.ensures.1)
-
-pub returns-in-Refused : goal.returns-in-Refused
-returns-in-Refused c =
-    let e = c.pack_limit.ensures ∙ ap packed_count c.in-Refused.ensures.0 in
-    (e, counted (filling-fits c.args.file.now c.args.map.now) e, c.in-Refused.ensures.1)
+pub returns : goal.returns
+returns c =
+    let a = c.args in
+    let e = c.pack_count.ensures ∙ ap packed_count c.fill.ensures.0 in
+    (e, counted (filling-fits a.file.now a.map.now) e, c.fill.ensures.1)

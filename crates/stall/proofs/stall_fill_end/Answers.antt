@@ -7,5 +7,6 @@ use Rattle.stall.proofs.stall_fill_end.Goals as goal
 
 pub returns : goal.returns
 returns c =
-    let e = c.pack_step.ensures ∙ ap packed_count c.end.ensures in
-    (e, counted (ending-fits c.args.file.now c.args.map.now) e)
+    let a = c.args in
+    let e = c.pack_count.ensures ∙ ap packed_count c.end.ensures in
+    (e, counted (ending-fits a.file.now a.map.now) e)

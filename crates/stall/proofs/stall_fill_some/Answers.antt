@@ -8,5 +8,5 @@ use Rattle.stall.proofs.stall_fill_some.Goals as goal
 pub returns : goal.returns
 returns c =
     let a = c.args in
-    let e = c.pack_step.ensures ∙ ap packed_count c.some.ensures.0 in
+    let e = c.pack_count.ensures ∙ ap packed_count c.some.ensures.0 in
     (e, counted (joining-fits a.file.now a.map.now a.first a.count) e, c.some.ensures.1)
