@@ -63,7 +63,7 @@ fn whole_word(s: &[u8], i: usize) -> u32
     u32::from_be_bytes([s[i], s[i + 1], s[i + 2], s[i + 3]])
 }
 
-// Byte i, or 0 past the end.
+// Byte i, or 0 past the end. No `get`: the pair of its tag and its pointer lies otherwise on a controller, and `firmware/retarget` refuses it.
 fn byte_at(s: &[u8], i: usize) -> u8
     ensures { result ≡ get_or s.now i 0 }
 {

@@ -28,7 +28,7 @@ pub fn header_numbers(header: Header) -> [i32; 9]
     ]
 }
 
-// A record's values, as they are put out.
+// A record's values, as they are put out: a list, as the calls for C have it.
 pub fn record_numbers(rec: Record) -> [i32; 10]
     requires { Small (record_numbers rec) }
     ensures { result ≡ record_numbers rec }
