@@ -13,9 +13,8 @@ pub mod Ring
 pub mod Certificates
 -- Bounds on the size of a number, which compose.
 pub mod Bounds
--- What signed code asks of a proof: operations, casts, quotients.
+-- What signed code asks of a proof: operations, quotients.
 pub mod Machine
-pub mod Casts
 pub mod Quotients
 -- The lesser and the greater of two numbers.
 pub mod MinMax
