@@ -1,5 +1,4 @@
 -- A block and its halves.
---     rows                 a block's range is a range of columns
 --     cut_range            a range cut in two
 --     wider                a block of a grid is one of a larger grid
 --     long-u, long-v       the longer side of a block that is not small has two cells
@@ -12,19 +11,14 @@ use native.Mathlib.Nat.{mul-le-mul, mul_comm, le_trans, le_of_lt}
 use native.Mathlib.Omega.{arith}
 use borrow.Author.Tests.{lt-ltb, le-ltb, le-leb, lt-leb, leb-false}
 use lib.Dec.{leb, ltb}
-use Rattle.grid.specs.declared.CellRange.{CellRange}
 use Rattle.grid.specs.Range.{in_range}
 use Rattle.pending.specs.Pending.{halvings}
 use Rattle.pending.proofs.Laws.{fewer}
 use Rattle.columns.specs.Draw.{range}
-use Rattle.columns.specs.Column.{RowsIn}
 use Rattle.blocks.specs.declared.shape.Block.{Block}
-use Rattle.blocks.specs.Block.{u_range, v_range, width_of, is_small, SomeCells, BlockIn}
+use Rattle.blocks.specs.Block.{u_range, v_range, width_of, is_small, BlockIn}
 
 -- ---- a range
-pub rows : {n : ℕ} {r : CellRange} → SomeCells n r → RowsIn r n
-rows h = record { ordered = omega (arith, h.some); end = h.most }
-
 and-or-none : (p q : Bool) → (p && true) ≡ ((p && true) || (false && q))
 and-or-none true q = refl
 and-or-none false q = refl

@@ -3,12 +3,14 @@
 use mathlib.Core.Bool.{Bool, true, false, cond}
 use mathlib.Core.Path.{◌≡◌}
 use Prim.Native.Nat.{ℕ, zero-le}
-use lib.Dec.{lit≤}
+use Rattle.std.proofs.Common.{neg_ℤ, FitsSigned, to_z, of_z, w64}
+use mir.Facts.{to_z-of_z}
+use lib.Dec.{lit<, lit≤}
 use lib.IntN.{ℤ, pos, nat_abs}
 use lib.Signed.{◌≤ℤ◌, le_z, lt_z}
 use Rattle.integers.specs.Within.{Within}
 use Rattle.integers.proofs.Laws.{nn-mul}
-use Rattle.integers.proofs.Bounds.{within-add, within-sub, within-mul, within-neg, within-weaken}
+use Rattle.integers.proofs.Bounds.{within-add, within-sub, within-mul, within-neg, within-weaken, within-fits}
 use Rattle.integers.proofs.MinMax.{max!, within-max}
 use Rattle.integers.proofs.Omega.{zarith}
 use Rattle.std.specs.Int.{int_max}
@@ -36,6 +38,16 @@ within-turned n h = within-cond (lt_z n (pos 0)) (within-neg h) h
 
 pub within-size : {B : ℕ} {c : ℤ} → Within B c → Within B (pos (nat_abs c))
 within-size h = record { within = h.within }
+
+-- the negative of a component of a normal is a number of the machine too, also where the component is turned
+abbrev m : ℤ → ℤ
+m z = to_z w64 (of_z w64 z)
+
+pub negates : {z : ℤ} → Within normal_max z → FitsSigned w64 (neg_ℤ (m z))
+negates h = rw (to_z-of_z {w = w64} (within-fits (lit< tt) h)) (within-fits (lit< tt) (within-neg h))
+
+pub turned-negates : (n : ℤ) {c r : ℤ} → Within normal_max c → r ≡ turned (m n) (m c) → FitsSigned w64 (neg_ℤ (m r))
+turned-negates n {r = r} h e = negates {z = r} (rw (e, to_z-of_z {w = w64} (within-fits (lit< tt) h)) (within-turned (m n) h))
 
 -- ---- the normal
 abbrev C : ℤ → Type 0

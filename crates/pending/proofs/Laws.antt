@@ -3,7 +3,7 @@
 --     each_halves                   what holds of each block
 --     begun, finished, halved, done what is filled and what is pending, from the first block to the last
 --     lighter, halves-lighter       what falls with each turn
---     fewer, six                    half a row of cells wants fewer halvings, and no row more than six
+--     fewer                         half a row of cells wants fewer halvings
 -- Assumes nothing.
 use mathlib.Core.Bool.{Bool, true, false, ◌||◌, or_assoc, or-false}
 use mathlib.Core.List.{List, [], ◌∷◌}
@@ -115,7 +115,3 @@ fewer m n some most half =
       bit_le 8 m 16 n (λ h. omega arith),
       bit_le 16 m 32 n (λ h. omega arith),
     )
-
--- Six halvings are enough.
-pub six : (n : ℕ) → halvings n ≤ 6
-six n = omega (arith, bit-most (ltb 1 n), bit-most (ltb 2 n), bit-most (ltb 4 n), bit-most (ltb 8 n), bit-most (ltb 16 n), bit-most (ltb 32 n))

@@ -63,6 +63,9 @@ others edge u v k = passes edge.vw.b (edge.vw.a *ℤ v +ℤ edge.vw.c) k && pass
 tested : (edge : Edge) (u v x : ℤ) {y z : ℤ} {t : Bool} → y ≡ edge.inside → z ≡ x → le_z y z ≡ t → (k : ℕ) → (le_z edge.inside x || others edge u v k) ≡ (t || others edge u v k)
 tested edge u v x is at e k = ap (λ (b : Bool). b || others edge u v k) (sym (λ i. le_z (is i) (at i)) ∙ e)
 
+pub overflow_mul-e : goal.overflow_mul-e
+overflow_mul-e c = let f = c.args.e.now.vw in let (p, q) = c.requires in (fits f.b f.a f.c c.args.v (first p.vw q.v-in)).0.2
+
 pub overflow_add-e : goal.overflow_add-e
 overflow_add-e c = let f = c.args.e.now.vw in let (p, q) = c.requires in (fits f.b f.a f.c c.args.v (first p.vw q.v-in)).2
 

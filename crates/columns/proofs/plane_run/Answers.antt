@@ -35,6 +35,9 @@ module _ {f : PlaneForm} {w : CellRange} {hint : ℕ} {u v : ℤ} (p : BoundedPl
   needed : Asks (ρ f u v) e
   needed = asks (ρ f u v) e bs tt ins
 
+pub overflow_mul-p : goal.overflow_mul-p
+overflow_mul-p c = (needed c.requires).0.1.2
+
 pub overflow_add-p : goal.overflow_add-p
 overflow_add-p c = (needed c.requires).0.2
 

@@ -9,7 +9,7 @@ use Rattle.integers.proofs.Expr.{Expr, var, ◌⊖◌, nth}
 use Rattle.integers.proofs.Machine.{back, bounded, learnt}
 use Rattle.geometry.specs.Bounds.{offset_max, normal_max, step_max, extent_max, each}
 use Rattle.forms.specs.declared.EdgeForm.{EdgeForm}
-use Rattle.forms.specs.Triangle.{edge_form, inside_from, edge_bounds, EdgeReady}
+use Rattle.forms.specs.Triangle.{edge_form, inside_from, edge_bounds, inside_bounds, EdgeReady}
 use Rattle.geometry.specs.declared.Point.{Point}
 use Rattle.forms.proofs.edge_between.Goals as goal
 use Rattle.forms.proofs.edge_between.Goals.{After-inside_from-inside}
@@ -56,10 +56,16 @@ Form r l = r ≡ edge_form (nth l 0) (nth l 1) (nth l 2) (nth l 3) (nth l 4) (nt
 abbrev From : ℤ → List ℤ → Type 0
 From r l = r ≡ inside_from (nth l 0) (nth l 1) (nth l 2) (nth l 3)
 
+pub edge_form-vw-requires : goal.edge_form-vw-requires
+edge_form-vw-requires c = let a = c.args in bounded (ρ a.n a.from a.to a.step a.extent) (y ∷ z ∷ var 4 ∷ var 5 ∷ var 9 ∷ var 10 ∷ []) bs edge_bounds tt (ins c.requires)
+
 pub edge_form-wu-requires : goal.edge_form-wu-requires
 edge_form-wu-requires c =
     let a = c.args in
     bounded (ρ a.n a.from a.to a.step a.extent) (z ∷ x ∷ var 5 ∷ var 3 ∷ var 9 ∷ var 10 ∷ []) bs edge_bounds tt (ins c.requires)
+
+pub inside_from-inside-requires : goal.inside_from-inside-requires
+inside_from-inside-requires c = let a = c.args in bounded (ρ a.n a.from a.to a.step a.extent) square bs inside_bounds tt (ins c.requires)
 
 pub returns : goal.returns
 returns c =

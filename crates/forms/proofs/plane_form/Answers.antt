@@ -11,7 +11,7 @@ use Rattle.integers.proofs.MinMax.{within-max}
 use Rattle.geometry.specs.Bounds.{normal_max, offset_max, step_max, extent_max, each}
 use Rattle.overlap.specs.Rule.{turned}
 use Rattle.forms.specs.Triangle.{plane_form}
-use Rattle.forms.proofs.Sizes.{max-swap, within-turned, within-zero, within-size}
+use Rattle.forms.proofs.Sizes.{max-swap, within-turned, within-zero, within-size, turned-negates}
 use Rattle.forms.proofs.plane_form.Goals as goal
 use Rattle.forms.proofs.plane_form.Goals.{After-abs-size_y}
 
@@ -107,6 +107,12 @@ module _ (c : After-abs-size_y) where
       let x = size-x ∙ ap size x-is in
       let y = size-y ∙ ap size y-is in
       λ i. c.args.extent *ℤ (x i +ℤ y i +ℤ z-is i)
+
+pub abs-size_x-requires : goal.abs-size_x-requires
+abs-size_x-requires c = turned-negates c.args.n.z c.requires.0.x c.turned-mx.ensures
+
+pub abs-size_y-requires : goal.abs-size_y-requires
+abs-size_y-requires c = turned-negates c.args.n.z c.requires.0.y c.turned-my.ensures
 
 pub returns : goal.returns
 returns c =

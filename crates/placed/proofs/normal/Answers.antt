@@ -2,7 +2,7 @@
 use Rattle.std.proofs.Common.{◌≡◌, ℕ, List, [], ◌∷◌, ℤ, w64, ◌∙◌}
 use Rattle.integers.specs.Within.{Withins}
 use Rattle.integers.proofs.Expr.{Expr, var, nth}
-use Rattle.integers.proofs.Machine.{back, bounded, learnt}
+use Rattle.integers.proofs.Machine.{back, learnt}
 use Rattle.geometry.specs.Bounds.{offset_max, each, TriangleWithin}
 use Rattle.geometry.specs.declared.Triangle.{Triangle}
 use Rattle.forms.specs.Triangle.{component}
@@ -29,15 +29,6 @@ in-xy = var 0 ∷ var 1 ∷ var 3 ∷ var 4 ∷ var 6 ∷ var 7 ∷ []
 
 abbrev Component : ℤ → List ℤ → Type 0
 Component r l = r ≡ component (nth l 0) (nth l 1) (nth l 2) (nth l 3) (nth l 4) (nth l 5)
-
-pub component-x-requires : goal.component-x-requires
-component-x-requires c = bounded (ρ c.args.t) in-yz bs (each offset_max 6 []) tt (ins c.requires)
-
-pub component-y-requires : goal.component-y-requires
-component-y-requires c = bounded (ρ c.args.t) in-zx bs (each offset_max 6 []) tt (ins c.requires)
-
-pub component-z-requires : goal.component-z-requires
-component-z-requires c = bounded (ρ c.args.t) in-xy bs (each offset_max 6 []) tt (ins c.requires)
 
 pub returns : goal.returns
 returns c =

@@ -1,17 +1,16 @@
 -- `triangles::fill_columns`: whichever axis is taken, the cells are the same.
-use Rattle.std.proofs.Common.{◌≡◌, ℕ, List, ℤ, neg_ℤ, FitsSigned, to_z, of_z, w64, ap, ◌∙◌, subst}
+use Rattle.std.proofs.Common.{◌≡◌, ℕ, List, ℤ, to_z, of_z, w64, ap, ◌∙◌, subst}
 use mathlib.Core.Path.{subst₂}
 use lib.Dec.{lit<}
 use mir.Facts.{to_z-of_z}
-use Rattle.integers.specs.Within.{Within}
-use Rattle.integers.proofs.Bounds.{within-fits, within-neg}
+use Rattle.integers.proofs.Bounds.{within-fits}
 use Rattle.geometry.specs.Bounds.{normal_max, PointWithin, BoundedTriangle}
 use Rattle.geometry.specs.declared.Triangle.{Triangle}
 use Rattle.grid.specs.declared.BoxRange.{BoxRange}
 use Rattle.grid.specs.declared.Grid.{Grid}
 use Rattle.grid.specs.declared.Lattice.{Lattice}
 use Rattle.ranges.specs.Range.{PicksBox}
-use Rattle.forms.proofs.Sizes.{normal-within}
+use Rattle.forms.proofs.Sizes.{normal-within, negates}
 use Rattle.placed.specs.declared.Placed.{Placed}
 use Rattle.placed.specs.Placed.{placed_in, turn_placed}
 use Rattle.triangles.specs.Add.{AddsTriangle, FillableBox}
@@ -21,9 +20,6 @@ use Rattle.triangles.proofs.fill_columns.Goals as goal
 
 abbrev m : ℤ → ℤ
 m z = to_z w64 (of_z w64 z)
-
-negates : {z : ℤ} → Within normal_max z → FitsSigned w64 (neg_ℤ (m z))
-negates h = rw (to_z-of_z {w = w64} (within-fits (lit< tt) h)) (within-fits (lit< tt) (within-neg h))
 
 module _ {g : Grid} {l : Lattice} {b : BoxRange} {t : Triangle} {bytes : ℕ} (h : FillableBox g l bytes b × BoundedTriangle t × PicksBox t l g.nx g.ny g.nz b) where
   abbrev whole : Placed

@@ -43,11 +43,6 @@ some b e =
     neither false q h = (refl, h)
     neither true q h = absurd (false≢true (sym h))
 
-pub box_range-b-requires : goal.box_range-b-requires
-box_range-b-requires c =
-    let p = c.requires in
-    (p.1, p.0.boxes, record { x = omega (arith, p.0.x.most); y = omega (arith, p.0.y.most); z = omega (arith, p.0.z.most) })
-
 pub returns-then-is_empty : goal.returns-then-is_empty
 returns-then-is_empty c =
     let a = c.args in

@@ -26,6 +26,12 @@ module _ {f : EdgeForm} {i j : ℤ} (p : BoundedForm f × Within index_max i × 
   needed : Asks (ρ f i j) e
   needed = asks (ρ f i j) e bs tt ins
 
+pub overflow_mul-result : goal.overflow_mul-result
+overflow_mul-result c = (needed c.requires).0.0.2
+
+pub overflow_mul-result-2 : goal.overflow_mul-result-2
+overflow_mul-result-2 c = (needed c.requires).0.1.2
+
 pub overflow_add-result : goal.overflow_add-result
 overflow_add-result c = (needed c.requires).0.2
 

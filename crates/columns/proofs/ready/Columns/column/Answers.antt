@@ -41,6 +41,13 @@ module _ (c : Columns) (i j : ℕ) (hi : i < c.g.nu) (hj : j < c.g.nv) where
       → Narrows c.w (plane_passes (plane_at c.forms.now) (pos i) (pos j)) r
   by-plane {r} n = subst (λ p. Narrows c.w p r) (λ k. plane_passes (plane_at c.forms.now) (u-is k) (v-is k)) n
 
+pub edge_run-r1-requires : goal.edge_run-r1-requires
+edge_run-r1-requires c =
+    let (_, hi, hj) = c.requires in
+    let a = c.args in
+    let r = c.edge_run-r0.ensures in
+    (a.self.now.forms.now.bounded.edge 1 (omega arith), in-run a.self.now a.i a.j hi hj r.ordered (omega (arith, r.to, c.plane_run-plane.ensures.to)))
+
 pub edge_run-r2-requires : goal.edge_run-r2-requires
 edge_run-r2-requires c =
     let (_, hi, hj) = c.requires in
