@@ -60,7 +60,8 @@ fn plane_meets(n: Point, v: Point, extent: i64) -> bool
     0 <= f.at && f.at <= f.reach
 }
 
-// In the plane of two axes, does the box reach the inner side of each edge? n is the normal's component on the third axis.
+// In the plane of two axes, does the box reach the inner side of each edge? n is the normal's component on the third axis. The corners come number by
+// number: as pairs they would have to be made for each plane.
 fn edges_meet(n: i64, a0: i64, b0: i64, a1: i64, b1: i64, a2: i64, b2: i64, extent: i64) -> bool
     requires { Withins edges_bounds (n ∷ a0 ∷ b0 ∷ a1 ∷ b1 ∷ a2 ∷ b2 ∷ extent ∷ []) }
     ensures { result ≡ edges_meet n a0 b0 a1 b1 a2 b2 extent }

@@ -1,31 +1,73 @@
 -- Laws of a map that is filled by pieces.
+--     stack_top, stack-halves       a block is taken from the array, and its halves take its place
+--     stack-is                      the stack of an array, as `blocks::Pending` shows it
 --     taken, length-put             the last block is taken, and another put in its place
 --     each_halves                   what holds of each block
 --     begun, finished, halved, done what is filled and what is pending, from the first block to the last
 --     lighter, halves-lighter       what falls with each turn
---     fewer                         half a row of cells wants fewer halvings
+--     fewer, six                    half a row of cells wants fewer halvings, and no row more than six
 -- Assumes nothing.
 use mathlib.Core.Bool.{Bool, true, false, ◌||◌, or_assoc, or-false}
 use mathlib.Core.List.{List, [], ◌∷◌}
 use Rattle.std.proofs.Common.{Some, drop}
 use Rattle.std.specs.List.{slice_get}
 use mathlib.Core.Path.{◌≡◌, refl, sym, ap, ◌∙◌}
-use Prim.Native.Nat.{ℕ, ◌+◌, ◌*◌, ◌^◌, ◌<◌, ◌≤◌}
+use Prim.Native.Nat.{ℕ, zero, suc, ◌+◌, ◌-◌, ◌*◌, ◌^◌, ◌<◌, ◌≤◌}
 use native.Mathlib.Decide.{dec_lt}
 use native.Mathlib.Nat.{pow-suc}
 use native.Mathlib.Omega.{arith}
 use borrow.Author.Tests.{lt-ltb, le-ltb}
 use lib.Dec.{ltb}
-use lib.ListN.{length}
+use lib.ListN.{length, get_or, set, length-set}
+use lib.Seq.{get_or-set_same, get_or-set_other}
+use native.Mathlib.Numerals.{add-one}
+use Rattle.std.proofs.Common.{take, reverse}
+use Rattle.std.proofs.Math.Seq.{take-suc}
+use Rattle.std.proofs.lemmas.List.{reverse-append}
 use lib.Pow.{pow_mono, pow_pos}
 use Rattle.map.specs.Map.{is_filled, bit}
-use Rattle.pending.specs.Pending.{waits, Progress, Each, weight, load, put_if, halvings}
+use Rattle.pending.specs.Pending.{stack, waits, Progress, Each, weight, load, put_if, halvings}
 
 pub bit-most : (k : Bool) → bit k ≤ 1
 bit-most true = omega arith
 bit-most false = omega arith
 
 module _ {B : Type 0} where
+  -- ---- the array
+  module _ (z : B) where
+    pub stack-length : (xs : List B) (n : ℕ) → length (stack z xs n) ≡ n
+    unfolding stack
+    stack-length xs zero = refl
+    stack-length xs (suc n) = ap suc (stack-length xs n)
+
+    pub stack_top : (xs : List B) (n : ℕ) → 0 < n → stack z xs n ≡ get_or xs (n - 1) z ∷ stack z xs (n - 1)
+    unfolding stack
+    stack_top xs n h = let e : n ≡ suc (n - 1) = omega arith in ap (stack z xs) e
+
+    below : (xs : List B) (p : ℕ) (b : B) (n : ℕ) → n ≤ p → stack z (set xs p b) n ≡ stack z xs n
+    unfolding stack
+    below xs p b zero h = refl
+    below xs p b (suc n) h = λ i. get_or-set_other xs p n b z (λ e. omega arith) i ∷ below xs p b n (omega arith) i
+
+    stack-put : (xs : List B) (p : ℕ) (k : Bool) (b : B) → p < length xs → stack z (set xs p b) (p + bit k) ≡ put_if k b (stack z xs p)
+    unfolding stack
+    stack-put xs p true b h = ap (stack z (set xs p b)) (add-one p) ∙ (λ i. get_or-set_same xs p b z h i ∷ below xs p b p (omega arith) i)
+    stack-put xs p false b h = let e : p + 0 ≡ p = omega arith in ap (stack z (set xs p b)) e ∙ below xs p b p (omega arith)
+
+    -- the halves of block p take its place, the lower one above
+    pub stack-halves : (xs : List B) (p : ℕ) (lower upper : Bool) (low high : B) → p + 1 < length xs
+        → stack z (set (set xs p high) (p + bit upper) low) (p + bit upper + bit lower) ≡ put_if lower low (put_if upper high (stack z xs p))
+    stack-halves xs p lower upper low high h =
+        stack-put (set xs p high) (p + bit upper) lower low (simp length-set (omega (arith, bit-most upper))) ∙ ap (put_if lower low) (stack-put xs p upper high (omega arith))
+
+    -- while the array has so many, they are its first n, the last one first
+    pub stack-is : (xs : List B) (n : ℕ) → n ≤ length xs → stack z xs n ≡ reverse (take n xs)
+    unfolding stack
+    stack-is xs zero h = refl
+    stack-is xs (suc n) h =
+        ap (λ (ys : List B). get_or xs n z ∷ ys) (stack-is xs n (omega arith))
+        ∙ sym (ap reverse (take-suc xs n z (omega arith)) ∙ reverse-append (take n xs) (get_or xs n z ∷ []))
+
   -- the last block is taken
   pub taken : (xs : List B) {ys : List B} {b : B} → Some b ≡ slice_get xs 0 → ys ≡ drop 1 xs → xs ≡ b ∷ ys
   taken [] e f = cc
@@ -115,3 +157,7 @@ fewer m n some most half =
       bit_le 8 m 16 n (λ h. omega arith),
       bit_le 16 m 32 n (λ h. omega arith),
     )
+
+-- Six halvings are enough.
+pub six : (n : ℕ) → halvings n ≤ 6
+six n = omega (arith, bit-most (ltb 1 n), bit-most (ltb 2 n), bit-most (ltb 4 n), bit-most (ltb 8 n), bit-most (ltb 16 n), bit-most (ltb 32 n))

@@ -1,9 +1,14 @@
 -- A map that is filled by pieces (a worklist): blocks of cells are pending, the last one is taken, and it is finished, or its halves take its place. The type B of
 -- blocks is any; `wanted b n` says that cell n lies in block b and is to be filled. Definitions only.
-use Rattle.std.specs.Prelude.{Bool, true, false, ◌||◌, List, [], ◌∷◌, ◌≡◌, ℕ, ◌+◌, ◌-◌, ◌*◌, ◌^◌, ltb, length}
+use Rattle.std.specs.Prelude.{Bool, true, false, ◌||◌, List, [], ◌∷◌, ◌≡◌, ℕ, zero, suc, ◌+◌, ◌-◌, ◌*◌, ◌^◌, ltb, length, get_or}
 use Rattle.map.specs.Map.{is_filled, bit}
 
 module _ {B : Type 0} where
+  -- The first n blocks of an array, as a stack: the last of them comes first. Past its end the array reads as z.
+  unfoldable pub stack : (z : B) → List B → ℕ → List B
+  stack z blocks zero = []
+  stack z blocks (suc n) = get_or blocks n z ∷ stack z blocks n
+
   -- Cell n is wanted in a pending block. The blocks stand in a stack, the last one first.
   abbrev pub waits : (wanted : B → ℕ → Bool) → List B → ℕ → Bool
   waits wanted [] n = false

@@ -103,7 +103,7 @@ pub fn place(g: Grid, l: Lattice, b: BoxRange, t: Triangle) -> Placed
     }
 }
 
-// The normal's component on the third axis, from the corners in the plane of two axes.
+// The normal's component on the third axis, from the corners in the plane of two axes, number by number: as pairs they would have to be made for each.
 fn component(a0: i64, b0: i64, a1: i64, b1: i64, a2: i64, b2: i64) -> i64
     requires { Withins (each offset_max 6 []) (a0 ∷ b0 ∷ a1 ∷ b1 ∷ a2 ∷ b2 ∷ []) }
     ensures { result ≡ component a0 b0 a1 b1 a2 b2 }
