@@ -6,7 +6,7 @@ use mathlib.Core.Path.{◌≡◌, refl}
 use lib.IntN.{ℤ, pos}
 use lib.ListN.{replicate}
 use Rattle.bits.specs.Field.{bytes_of}
-use Rattle.refusal.specs.Limit.{Answer, gives, refused, said}
+use Rattle.refusal.specs.Limit.{Answer, gives, refused, said as said_answer}
 use Rattle.refusal.specs.Questions.{answered}
 use Rattle.layout_write.specs.Writing.{header_bytes}
 use Rattle.writable.specs.Fits.{all_below}
@@ -56,5 +56,5 @@ pub kept : written_bytes (grid (pos 10)) [] (replicate 11 0xaa) ≡ replicate 11
 unfolding answered all_below writing written_bytes
 kept = refl
 
-pub said_length : ◌≡◌ {A = Answer ℕ} (said (Ok 28)) (gives 28)
-said_length = refl
+pub said : ◌≡◌ {A = Answer ℕ} (said_answer (Ok 28)) (gives 28)
+said = refl

@@ -24,7 +24,7 @@ pub struct GridValues {
     pub z: i32,
 }
 
-// The grid's values that a list begins with, in the order of the header.
+// The grid's values that a list begins with, in the order of the header: a caller in C lends such a list, and `write_frame` reads one.
 pub fn grid_from(numbers: &[i32]) -> GridValues
     requires { 7 ≤ length numbers.now }
     ensures { result ≡ grid_from numbers.now }

@@ -78,8 +78,7 @@ fn power(width: usize) -> i64
     requires { width ≤ 25 }
     ensures { result ≡ pos (2 ^ width) }
 {
-    let word = 1u32 << width;
-    word as i64
+    i64::from(1u32 << width)
 }
 
 // What a plain field of a width can hold.
