@@ -4,21 +4,19 @@
 --     held_of               each field can hold its number, so all can
 --     header-held           the bounds of all fields say what the fields can hold
 -- Assumes nothing.
-use mathlib.Core.Bool.{Bool, true, false, true≢false, and-eq-true_iff}
+use mathlib.Core.Bool.{Bool, true, false, ◌&&◌, true≢false, and-eq-true_iff}
 use mathlib.Core.List.{List, [], ◌∷◌}
-use mathlib.Core.Path.{◌≡◌, refl, sym, ◌∙◌}
+use mathlib.Core.Path.{◌≡◌, refl, sym, ap, ◌∙◌}
 use Prim.Native.Nat.{ℕ, zero, suc, ◌+◌, ◌<◌}
 use native.Mathlib.Decide.{dec_lt}
 use native.Mathlib.Numerals.{add-one}
 use native.Mathlib.Omega.{arith}
 use lib.IntN.{ℤ, pos}
 use lib.ListN.{length, get_or}
-use Rattle.integers.proofs.Truth.{same_truth}
 use Rattle.layout.specs.Layout.{FieldForm, field, plain}
-use Rattle.layout_write.specs.Writing.{between, can_hold, can_hold_all}
-use Rattle.layout_write.proofs.Held.{held_at}
+use Rattle.layout_write.specs.Writing.{can_hold, can_hold_all}
 use Rattle.writable.specs.Fits.{all_below}
-use Rattle.writable.specs.Inner.{bounds_of, bounds_at, each_between}
+use Rattle.writable.specs.Inner.{bounds_of, each_between}
 
 module _ (p : ℕ → Bool) where
   pub all_more : (i : ℕ) → all_below p i ≡ true → p i ≡ true → all_below p (i + 1) ≡ true
@@ -57,13 +55,8 @@ held_of [] (z ∷ zs) e f = absurd (omega arith)
 held_of (g ∷ fs) [] e f = absurd (omega arith)
 held_of (g ∷ fs) (z ∷ zs) e f = rw (f 0 (omega arith), held_of fs zs (omega arith) (λ k l. f (suc k) (omega arith))) refl
 
-bounds-held : (fs : List FieldForm) (i : ℕ) → i < length fs → (z : ℤ) → between (bounds_at (bounds_of fs) i).low (bounds_at (bounds_of fs) i).high z ≡ can_hold (get_or fs i none) z
-bounds-held [] i l z = absurd (omega arith)
-bounds-held (f ∷ fs) zero l z = refl
-bounds-held (f ∷ fs) (suc i) l z = bounds-held fs i (omega arith) z
-
 pub header-held : (fs : List FieldForm) (zs : List ℤ) → length zs ≡ length fs → each_between (bounds_of fs) zs ≡ can_hold_all fs zs
-header-held fs zs e =
-    same_truth (each_between (bounds_of fs) zs) (can_hold_all fs zs)
-    (λ h. held_of fs zs e (λ k l. sym (bounds-held fs k l (get_or zs k (pos 0))) ∙ all-at _ (length zs) h k (omega arith)))
-    (λ h. all_of _ (length zs) (λ i l. bounds-held fs i (omega arith) (get_or zs i (pos 0)) ∙ held_at fs zs h i (omega arith)))
+header-held [] [] e = refl
+header-held [] (z ∷ zs) e = absurd (omega arith)
+header-held (f ∷ fs) [] e = absurd (omega arith)
+header-held (f ∷ fs) (z ∷ zs) e = ap (λ (b : Bool). can_hold f z && b) (header-held fs zs (omega arith))

@@ -1,6 +1,7 @@
 -- What the tests ask and answer. Definitions only; no public promise cites them.
 use Rattle.std.specs.Prelude.{Bool, List, map, ℕ, ◌*◌, ℤ, pos, length, get_or}
-use Rattle.layout.specs.Layout.{FieldForm, field, plain}
+use Rattle.std.specs.List.{list_all, zip}
+use Rattle.layout.specs.Layout.{FieldForm}
 use Rattle.layout_write.specs.Writing.{least, greatest, between}
 use Rattle.writable.specs.declared.Bounds.{Bounds}
 use Rattle.writable.specs.Fits.{all_below}
@@ -12,13 +13,9 @@ bounds_of_field f = record { low = least f.coding f.bits; high = greatest f.codi
 abbrev pub bounds_of : List FieldForm → List Bounds
 bounds_of fs = map bounds_of_field fs
 
--- Bounds number i; past the last the bounds are those of no bits.
-abbrev pub bounds_at : List Bounds → ℕ → Bounds
-bounds_at bs i = get_or bs i (bounds_of_field (field plain 0))
-
 -- Each number of a list lies within its own bounds; within the same; and each tenth, from the first on, is a kind.
 abbrev pub each_between : List Bounds → List ℤ → Bool
-each_between bs zs = all_below (λ i. between (bounds_at bs i).low (bounds_at bs i).high (get_or zs i (pos 0))) (length zs)
+each_between bs zs = list_all (λ pair. between pair.0.low pair.0.high pair.1) (zip bs zs)
 
 abbrev pub all_between : (low high : ℤ) → List ℤ → Bool
 all_between low high zs = all_below (λ i. between low high (get_or zs i (pos 0))) (length zs)

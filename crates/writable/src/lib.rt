@@ -106,15 +106,12 @@ fn signed_bounds(width: usize) -> Bounds
 
 // Does each number lie within its own bounds?
 fn each_between(bounds: &[Bounds], numbers: &[i32]) -> bool
-    requires { length bounds.now ≡ length numbers.now }
     ensures { result ≡ each_between bounds.now numbers.now }
 {
-    for i in 0..numbers.len() {
-        if !between(bounds[i], i64::from(numbers[i])) {
-            return false;
-        }
-    }
-    true
+    bounds
+        .iter()
+        .zip(numbers)
+        .all(|(bound, x)| between(*bound, i64::from(*x)))
 }
 
 // Does x lie within bounds, both included?
