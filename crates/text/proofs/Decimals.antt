@@ -64,3 +64,9 @@ printed n h = sym (enough n (n + 1) n (omega arith) (omega arith) ∙ decimal_fr
 pub signed-printed : (z : ℤ) → mag z < 2 ^ 63 → signed_shown z ≡ signed_decimal z
 signed-printed (pos n) h = printed n (omega arith)
 signed-printed (negsuc n) h = ap (λ (t : List ℕ). 45 ∷ t) (printed (suc n) (omega arith))
+
+-- ---- how long a number is, of 64 bits and below 64
+pub decimal_short : (n : ℕ) → n < 64 → length (decimal n) ≤ 2
+decimal_short n h = decimal-length 1 n (omega arith)
+
+pub ruleset sizes = (decimal-most, decimal_short)

@@ -42,6 +42,7 @@ pub fn put_blocked(out: &mut [u8], leg: usize, cell: usize) -> usize
 }
 
 // Puts a line of a word, a number, a second word and a second number at the start. A number has at most 20 digits.
+#[tactic(auto, using(crate::proofs::Decimals::sizes))]
 fn put_pair(out: &mut [u8], word: &[u8], a: usize, second: &[u8], b: usize) -> usize
     requires { (length word.now ≤ 8) × (length second.now ≤ 8) × (first_most ≤ length out.old) }
     ensures { Puts out.old 0 (pair_line word.now a second.now b) out.new result }
@@ -54,6 +55,7 @@ fn put_pair(out: &mut [u8], word: &[u8], a: usize, second: &[u8], b: usize) -> u
 }
 
 // Puts "i j k".
+#[tactic(auto, using(crate::proofs::Decimals::sizes))]
 pub fn put_place(out: &mut [u8], at: usize, i: usize, j: usize, k: usize) -> usize
     requires { (i < 64) × (j < 64) × (k < 64) × (at + line_most ≤ length out.old) }
     ensures { Puts out.old at (place_line i j k) out.new result × (result ≤ length out.old) }
