@@ -8,13 +8,16 @@ use lib.ListN.{take}
 use Rattle.bits.specs.Field.{bit_at, field_at, signed_at}
 use Rattle.geometry.specs.declared.Point.{Point}
 use Rattle.geometry.specs.Geometry.{point, triangle}
-use Rattle.std.specs.Prelude.{Option, Some, None}
-use Rattle.refusal.specs.Limit.{gives, refused}
+use Rattle.std.specs.Prelude.{Option, Some, None, Result, Ok}
+use Rattle.refusal.specs.declared.Limit.{Limit}
+use Rattle.refusal.specs.Limit.{gives, refused, said}
 use Rattle.refusal.specs.Questions.{answered, of_each}
 use Rattle.layout.specs.declared.Header.{Header}
 use Rattle.layout.specs.Values.{header_in, reserved_in, record_in, kind_in}
 use Rattle.layout.specs.declared.Record.{Record}
 use Rattle.frame.specs.declared.Reading.{Reading}
+use Rattle.frame.specs.declared.Frame.{Frame}
+use Rattle.frame.specs.Frame.{said_check}
 use Rattle.frame.specs.File.{record_of}
 use Rattle.frame.specs.Questions.{checked, reading}
 
@@ -115,3 +118,14 @@ no_second = refl
 pub read-refused : reading (three 0xc0) 0 ≡ refused 7 1
 unfolding bit_at field_at signed_at header_in reserved_in record_in kind_in answered of_each reading
 read-refused = refl
+
+-- ---- what the answers' cases say
+pub said-check : (f : Frame) → said_check (Ok f) ≡ gives f.header
+said-check f = refl
+
+abbrev read : Reading → Result Reading Limit
+read v = Ok v
+
+pub said-reading : (said (read (reads values (Some (record_of (three 0x40) 1)))) ∷ said (read (reads values None)) ∷ [])
+    ≡ (gives (reads values (Some (record_of (three 0x40) 1))) ∷ gives (reads values None) ∷ [])
+said-reading = refl

@@ -5,6 +5,7 @@ use mathlib.Core.Path.{◌≡◌, refl}
 use Prim.Native.Nat.{ℕ}
 use lib.ListN.{take, replicate}
 use Rattle.bits.specs.Field.{bit_at, field_at, signed_at}
+use Rattle.std.specs.Prelude.{Some, None, Ok}
 use Rattle.refusal.specs.Limit.{gives}
 use Rattle.refusal.specs.Questions.{answered, of_each}
 use Rattle.grid.specs.declared.Grid.{Grid}
@@ -15,7 +16,7 @@ use Rattle.frame.specs.Questions.{checked}
 use Rattle.fill.specs.Fill.{obstacles, any_of, grid_of}
 use Rattle.text.specs.Text.{digits, decimal}
 use Rattle.listing.specs.declared.Rest.{Rest}
-use Rattle.listing.specs.Listing.{cell_line, lines_from, first_line, filled_lines, listing, more, short_buffer, all_of, begun, lines_in, piece_of, usable, written, last, unusable, piece}
+use Rattle.listing.specs.Listing.{cell_line, lines_from, first_line, filled_lines, listing, more, short_buffer, all_of, begun, lines_in, piece_of, usable, written, last, unusable, piece, said_begun, said_piece}
 
 abbrev g : List ℕ
 g =
@@ -70,3 +71,10 @@ pub sides :
     ≡ (true ∷ true ∷ false ∷ false ∷ false ∷ false ∷ false ∷ [])
 unfolding usable
 sides = refl
+
+-- what the answers' cases say
+pub said-begun : said_begun (Ok (record { len = 14; rest = left 0 })) ≡ gives (more 14 (left 0))
+said-begun = refl
+
+pub said-pieces : (said_piece (Some (record { len = 12; rest = Some (left 3) })) ∷ said_piece (Some (record { len = 6; rest = None })) ∷ said_piece None ∷ []) ≡ (written 12 (left 3) ∷ last 6 ∷ unusable ∷ [])
+said-pieces = refl

@@ -4,8 +4,9 @@
 --     bar-lowest     the record is one of the file's, and no record before it reaches the cell
 --     clear_none     clear is said only where no record of the file reaches the cell
 --     cell-answered  of an accepted file no cell of the grid is refused
+--     said           what the answer's cases say
 -- Assumes nothing.
-use mathlib.Core.List.{List}
+use mathlib.Core.List.{List, [], ◌∷◌}
 use mathlib.Core.Path.{◌≡◌, refl}
 use Prim.Native.Nat.{ℕ, ◌+◌, ◌<◌}
 use lib.IntN.{pos, nat_abs}
@@ -19,7 +20,7 @@ use Rattle.frame.specs.File.{header_of, record_of}
 use Rattle.frame.specs.Questions.{checked}
 use Rattle.weights.specs.declared.Weights.{Weights}
 use Rattle.std.specs.Prelude.{Some, None, Ok}
-use Rattle.service.specs.Bar.{behind, Shown}
+use Rattle.service.specs.Bar.{behind, said_bar, Shown}
 use Rattle.service.proofs.Answers.{finding, behind-found}
 
 module _ (s : List ℕ) (n : ℕ) where
@@ -57,3 +58,6 @@ module _ (s : List ℕ) (n : ℕ) where
 
   pub cell-answered : (h : Header) → checked s ≡ gives h → n < cell_count h.grid → behind s n ≡ gives (finding s n)
   cell-answered = behind-found s n
+
+pub said : (w : Weights) → (said_bar (Ok None) ∷ said_bar (Ok (Some (record { index = 2; weights = w }))) ∷ []) ≡ (gives None ∷ gives (Some 2) ∷ [])
+said w = refl

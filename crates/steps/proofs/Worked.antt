@@ -3,7 +3,10 @@ use mathlib.Core.List.{List, [], ◌∷◌}
 use mathlib.Core.Path.{◌≡◌, refl}
 use Prim.Native.Nat.{ℕ}
 use Rattle.bits.specs.Field.{bit_at, field_at, signed_at}
+use Rattle.std.specs.Prelude.{Result, Ok}
+use Rattle.refusal.specs.declared.Limit.{Limit}
 use Rattle.refusal.specs.Limit.{gives, refused}
+use Rattle.refusal.specs.Limit as words
 use Rattle.refusal.specs.Questions.{answered, of_each}
 use Rattle.map.specs.Map.{is_filled, count_below}
 use Rattle.layout.specs.Values.{header_in, reserved_in, kind_in}
@@ -24,3 +27,9 @@ short-map = refl
 -- of ten records: all of a range, its part, none
 pub parts : (present 10 3 4 ∷ present 10 8 4 ∷ present 10 10 4 ∷ present 10 12 4 ∷ []) ≡ (4 ∷ 2 ∷ 0 ∷ 0 ∷ [])
 parts = refl
+
+abbrev done : Result ℕ Limit
+done = Ok 3
+
+pub said-step : words.said done ≡ gives 3
+said-step = refl
