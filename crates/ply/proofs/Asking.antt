@@ -1,9 +1,9 @@
 -- A loop that asks one question of each item, where the items lie at places.
 --     Asking, ask-more   what it keeps
---     ask-no, ask-end    the first "no" ends it, and else all are passed
+--     ask-no             the first "no" ends it
 -- Assumes nothing.
 use mathlib.Core.Bool.{true, false}
-use mathlib.Core.Path.{◌≡◌, sym, ap, ◌∙◌}
+use mathlib.Core.Path.{◌≡◌, sym}
 use Prim.Native.Nat.{ℕ, ◌+◌, ◌<◌, ◌≤◌}
 use native.Mathlib.Omega.{arith}
 use Rattle.refusal.specs.Limit.{refused}
@@ -22,6 +22,3 @@ module _ {q : ℕ → Question} {place : ℕ → ℕ} {n at k : ℕ} (a : Asking
 
   pub ask-no : k < n → (q k).holds ≡ false → refused (q k).number (q k).place ≡ asked (of_each q n)
   ask-no h e = sym (each-no q k n h a.yes e)
-
-  pub ask-end : n ≤ k → passed ≡ asked (of_each q n)
-  ask-end h = let same : k ≡ n = omega (arith, a.low) in sym a.yes ∙ ap (λ (i : ℕ). asked (of_each q i)) same

@@ -1,6 +1,6 @@
 -- Where faces lie, and the loop that walks over them.
 --     grows          a face begins behind those before it
---     Walking, walk_more, walk_end   what the loop keeps
+--     Walking, walk_more             what the loop keeps
 --     walk-cut                       a face that is not in the file, so that the file does not end behind its last
 -- Assumes nothing.
 use mathlib.Core.Bool.{false}
@@ -45,6 +45,3 @@ module _ {s : List ℕ} {at faces p i : ℕ} (w : Walking s at faces p i) where
 
   pub walk_more : {q : ℕ} → i < faces → q ≡ behind_face s p → Walking s at faces q (i + 1)
   walk_more h e = rw (add-one i) (record { low = h; is = e ∙ onward })
-
-  pub walk_end : faces ≤ i → eqb p (length s) ≡ eqb (face_from s at faces) (length s)
-  walk_end h = let same : i ≡ faces = omega (arith, w.low) in ap (λ (n : ℕ). eqb n (length s)) (w.is ∙ ap (face_from s at) same)

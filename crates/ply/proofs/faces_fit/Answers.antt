@@ -1,7 +1,7 @@
 -- `ply::faces_fit`: each turn is one face.
 use Rattle.std.proofs.Common.{refl, arith}
 use Rattle.ply.specs.Body.{face_from}
-use Rattle.ply.proofs.Places.{walk-cut, walk_more, walk_end}
+use Rattle.ply.proofs.Places.{walk-cut, walk_more}
 use Rattle.ply.proofs.faces_fit.Goals as goal
 
 pub loop-init : goal.loop-init
@@ -13,6 +13,3 @@ returns-then-s-p c = walk-cut c.loop.invariant c.loop-test.true c.if-s-p.true
 
 pub loop-preserved : goal.loop-preserved
 loop-preserved c = walk_more c.loop.invariant c.loop-test.true (omega (arith, c.from.ensures))
-
-pub returns : goal.returns
-returns c = walk_end c.loop.invariant c.loop-test.false

@@ -6,7 +6,7 @@ use Rattle.std.specs.Prelude.{Some}
 use Rattle.ply.specs.Body.{taken, behind_face, face_place, good_face, face_question}
 use Rattle.ply.proofs.Taken.{sized, face-in, next-face}
 use Rattle.ply.proofs.Faces.{good-count}
-use Rattle.ply.proofs.Asking.{Asking, ask-more, ask-no, ask-end}
+use Rattle.ply.proofs.Asking.{Asking, ask-more, ask-no}
 use Rattle.ply.proofs.Ply.check_faces.Goals as goal
 
 module _ (s : List ℕ) (f : Form) {at k : ℕ} (a : Asking (face_question s f) (face_place s f) f.faces at k) where
@@ -44,6 +44,3 @@ loop-k-preserved c =
     ∙ ap (behind_face c.args.self.now.file.now) c.loop-k.invariant.is
     ∙ sym (next-face c.args.self.now.file.now c.args.self.now.form c.loop-k.k)
     ∙ ap (face_place c.args.self.now.file.now c.args.self.now.form) (sym (add-one c.loop-k.k)))
-
-pub returns : goal.returns
-returns c = ask-end c.loop-k.invariant c.loop-k-test.false

@@ -6,7 +6,7 @@ use Rattle.std.specs.Prelude.{Some}
 use Rattle.ply_vertex.specs.Vertex.{size_of, vertex_at, placed}
 use Rattle.ply.specs.Body.{taken, vertex_place, vertex_of, vertex_question}
 use Rattle.ply.proofs.Taken.{sized, vertices-in, vertex-in, vertex-next, vertex-first}
-use Rattle.ply.proofs.Asking.{Asking, ask-more, ask-no, ask-end}
+use Rattle.ply.proofs.Asking.{Asking, ask-more, ask-no}
 use Rattle.ply.proofs.Ply.check_vertices.Goals as goal
 
 module _ (s : List ℕ) (f : Form) {at k : ℕ} (a : Asking (vertex_question s f) (vertex_place f) f.vertices at k) where
@@ -35,6 +35,3 @@ pub loop-k-preserved : goal.loop-k-preserved
 loop-k-preserved c =
     ask-more c.loop-k.invariant c.loop-k-test.true (asked_of _ _ c.loop-k.invariant c.is_placed.ensures ∙ c.if-not-is_placed.false)
     (omega (arith, c.loop-k.invariant.is, c.size-bytes.ensures.0, vertex-next c.args.self.now.form c.loop-k.k))
-
-pub returns : goal.returns
-returns c = ask-end c.loop-k.invariant c.loop-k-test.false
