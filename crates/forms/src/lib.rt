@@ -77,6 +77,7 @@ pub fn edge_form(n: i64, ea: i64, eb: i64, va: i64, vb: i64, step: i64, extent: 
 }
 
 // The value from which on a square is inside of the edge (ea, eb). More than any, where the normal is 0 on w: there no edge is left out.
+// It is a number then too, and no Option: a caller compares it with a form's value, and that one comparison says never.
 fn inside_from(n: i64, ea: i64, eb: i64, extent: i64) -> i64
     requires { Withins inside_bounds (n ∷ ea ∷ eb ∷ extent ∷ []) }
     ensures { result ≡ inside_from n ea eb extent }
