@@ -15,41 +15,27 @@
 
 mod text;
 
-ghost use Rattle.std.specs.Prelude.{◌≡◌, ◌<◌, ◌≤◌, length, IfOk};
+ghost use Rattle.std.specs.Prelude.{◌≡◌, ◌<◌, ◌≤◌, length};
 
+use demand::Finding;
 use points::Point;
-use route::RouteAnswer;
-use std::io::{self, Read};
-use text::find;
+use refusal::{Limit, Refusal};
+use std::io;
 
-// How many bytes the frame file and the buffer have.
-#[derive(Clone, Copy)]
-struct Held {
-    file: usize,
-    map: usize,
+// Bytes at the start of a room: the frame file, or the lent buffer.
+#[derive(Drop)]
+struct Held<'a> {
+    room: &'a mut [u8],
+    len: usize,
 }
 
 // Reads the cases, and runs them. The room for a file and for a map is more than the longest file and the largest map.
 pub fn run(rt: &(impl Input + Print)) -> io::Result<()> {
     let mut text = room();
-    let len = read_full(&mut rt.reader(), &mut text)?;
+    let len = console::read_full(&mut rt.reader(), &mut text)?;
     let mut file = [0u8; 65536];
     let mut map = [0u8; 65536];
     run_lines(rt, &text[..len], &mut file, &mut map)
-}
-
-// Reads until the input ends or buf is full, and answers how many bytes there are. A read that fails is no end.
-fn read_full<R: Read>(from: &mut R, buf: &mut [u8]) -> io::Result<usize>
-    ensures { IfOk result (λ len. len ≤ length buf.new) }
-{
-    let mut done = 0;
-    while done < buf.len() {
-        match from.read(&mut buf[done..])? {
-            0 => break,
-            more => done += more,
-        }
-    }
-    Ok(done)
 }
 
 // Room for the text of the cases.
@@ -61,12 +47,10 @@ fn room() -> [u8; 262144]
 
 // Runs each line in turn.
 fn run_lines(rt: &impl Print, text: &[u8], file: &mut [u8], map: &mut [u8]) -> io::Result<()> {
-    let mut held = Held { file: 0, map: 0 };
-    let mut at = 0;
-    while at < text.len() {
-        let end = find(text, at, b'\n');
-        held = run_line(rt, &text[at..end], file, map, held)?;
-        at = end + 1;
+    let mut file = Held { room: file, len: 0 };
+    let mut map = Held { room: map, len: 0 };
+    for line in text.split(|c| *c == b'\n') {
+        run_line(rt, line, &mut file, &mut map)?;
     }
     Ok(())
 }
@@ -75,38 +59,27 @@ fn run_lines(rt: &impl Print, text: &[u8], file: &mut [u8], map: &mut [u8]) -> i
 fn run_line(
     rt: &impl Print,
     line: &[u8],
-    file: &mut [u8],
-    map: &mut [u8],
-    held: Held,
-) -> io::Result<Held> {
-    let name = text::behind(text::before(line, b':'), b' ');
-    let values = text::behind(line, b':');
+    file: &mut Held<'_>,
+    map: &mut Held<'_>,
+) -> io::Result<()> {
+    let (head, values) = text::parted(line, b':');
+    let (_, name) = text::parted(head, b' ');
+    let times = text::number(name);
+    let (file_len, map_len) = (file.len, map.len);
     match text::letter(line) {
-        b'#' => Ok(held),
-        b'g' => Ok(Held {
-            file: text::put_bytes(values, 1, file, 0),
-            map: held.map,
-        }),
-        b'a' => Ok(Held {
-            file: text::put_bytes(values, text::number(name), file, held.file),
-            map: held.map,
-        }),
-        b'n' => Ok(Held {
-            file: put_noise(text::number(name), file, held.file),
-            map: held.map,
-        }),
-        b'b' => Ok(Held {
-            file: held.file,
-            map: text::put_bytes(values, text::number(name), map, 0),
-        }),
+        b'#' => {}
+        b'g' => file.len = text::put_bytes(values, 1, file.room, 0),
+        b'a' => file.len = text::put_bytes(values, times, file.room, file_len),
+        b'n' => file.len = put_noise(times, file.room, file_len),
+        b'b' => map.len = text::put_bytes(values, times, map.room, 0),
         letter => {
             report::begin(rt, name)?;
-            let lent = text::first_mut(map, held.map);
-            ask(rt, letter, values, text::first(file, held.file), lent)?;
+            let lent = text::first_mut(map.room, map_len);
+            ask(rt, letter, values, text::first(file.room, file_len), lent)?;
             report::end(rt)?;
-            Ok(held)
         }
     }
+    Ok(())
 }
 
 // Puts a question, and prints the answer.
@@ -130,29 +103,29 @@ fn ask_fill(
     report::filling(rt, fill::fill(file, map))?;
     match letter {
         b'f' => report::bytes(rt, map),
-        b's' => report::labelled(rt, b" SUM", digest(map, 31, 1000003)),
+        b's' => print!(rt; " SUM {}", digest(map, 31, 1000003)),
         _ => {
-            report::labelled(rt, b" MAP", digest(map, 257, 4294967291))?;
-            report::labelled(rt, b" ROUTES", digest_routes(values, file, map))
+            print!(rt; " MAP {}", digest(map, 257, 4294967291))?;
+            print!(rt; " ROUTES {}", digest_routes(values, file, map))
         }
     }
 }
 
 // What the test of a route of some numbers answers.
-fn answer(values: &[u8], file: &[u8], map: &[u8]) -> RouteAnswer {
+fn answer(values: &[u8], file: &[u8], map: &[u8]) -> Result<Finding, Limit> {
     let mut numbers = [0i16; 384];
     let count = text::put_numbers(values, &mut numbers);
-    route::test_route(file, map, text::first_numbers(&numbers, count))
+    route::test_route(file, map, text::first(&numbers, count))
 }
 
 // Tests the route of the first of 128 points by value.
 fn ask_points(rt: &impl Print, values: &[u8], file: &[u8], map: &[u8]) -> io::Result<()> {
-    let count = text::number(text::before(values, b','));
+    let (count, route) = text::parted(values, b',');
     let mut numbers = [0i16; 384];
-    text::put_numbers(text::behind(values, b','), &mut numbers);
+    text::put_numbers(route, &mut numbers);
     report::route(
         rt,
-        points::test_first_points(file, map, points_of(&numbers), count),
+        points::test_first_points(file, map, points_of(&numbers), text::number(count)),
     )
 }
 
@@ -160,10 +133,8 @@ fn ask_points(rt: &impl Print, values: &[u8], file: &[u8], map: &[u8]) -> io::Re
 fn points_of(numbers: &[i16; 384]) -> [Point; 128] {
     let origin = Point { x: 0, y: 0, z: 0 };
     let mut points = [origin; 128];
-    let mut i = 0;
-    while i < 128 {
+    for i in 0..128 {
         points[i] = point_at(numbers, 3 * i);
-        i += 1;
     }
     points
 }
@@ -182,13 +153,11 @@ fn point_at(numbers: &[i16; 384], i: usize) -> Point
 fn put_noise(count: usize, file: &mut [u8], at: usize) -> usize {
     let stop = text::stop(at, count, file.len());
     let mut state: u64 = 1;
-    let mut end = at;
-    while end < stop {
+    for i in at..stop {
         state = (state % 2147483648 * 1103515245 + 12345) % 2147483648;
-        file[end] = noise(state, end);
-        end += 1;
+        file[i] = noise(state, i);
     }
-    end
+    stop.max(at)
 }
 
 // Byte i of a file of noise: the first byte of a record has kind 0.
@@ -205,10 +174,8 @@ fn digest(s: &[u8], factor: u64, modulus: u64) -> u64
     requires { (factor ≤ 257) × (0 < modulus) × (modulus ≤ 4294967291) }
 {
     let mut sum = 0;
-    let mut i = 0;
-    while i < s.len() {
-        sum = (sum * factor + s[i] as u64) % modulus;
-        i += 1;
+    for byte in s {
+        sum = (sum * factor + u64::from(*byte)) % modulus;
     }
     sum
 }
@@ -216,33 +183,29 @@ fn digest(s: &[u8], factor: u64, modulus: u64) -> u64
 // The digest of the answers of routes, which stand with commas between them.
 fn digest_routes(routes: &[u8], file: &[u8], map: &[u8]) -> u64 {
     let mut sum = 0;
-    let mut at = 0;
-    while at < routes.len() {
-        let end = find(routes, at, b',');
-        sum = with_answer(sum, answer(&routes[at..end], file, map));
-        at = end + 1;
+    for part in routes.split_inclusive(|c| *c == b',') {
+        let (route, _) = text::parted(part, b',');
+        sum = with_answer(sum, answer(route, file, map));
     }
     sum
 }
 
 // A digest with the answer of a route: a number for its case, and then its values.
-fn with_answer(sum: u64, answer: RouteAnswer) -> u64 {
+fn with_answer(sum: u64, answer: Result<Finding, Limit>) -> u64 {
     match answer {
-        RouteAnswer::Free => with_number(sum, 1),
-        RouteAnswer::Blocked(leg, cell) => {
-            with_number(with_number(with_number(sum, 2), leg as u64), cell as u64)
-        }
-        RouteAnswer::Refused(limit) => {
-            let refusal = limit.refusal();
-            with_number(
-                with_number(with_number(sum, 3), refusal.number as u64),
-                refusal.place as u64,
-            )
+        Ok(Finding::Free) => with_numbers(sum, &[1]),
+        Ok(Finding::Blocked { leg, cell }) => with_numbers(sum, &[2, leg as u64, cell as u64]),
+        Err(limit) => {
+            let Refusal { number, place } = Refusal::from(limit);
+            with_numbers(sum, &[3, u64::from(number), place as u64])
         }
     }
 }
 
-// A digest with one more number: a polynomial modulo 4,294,967,291.
-fn with_number(sum: u64, x: u64) -> u64 {
-    (sum % 4294967291 * 257 + x % 4294967291) % 4294967291
+// A digest with more numbers: a polynomial modulo 4,294,967,291.
+fn with_numbers(sum: u64, numbers: &[u64]) -> u64 {
+    numbers.iter().fold(
+        sum,
+        |sum, x| (sum % 4294967291 * 257 + *x % 4294967291) % 4294967291,
+    )
 }

@@ -1,9 +1,6 @@
--- `digest` takes a byte with each turn, and the sum stays below the modulus.
-use Rattle.std.proofs.Common.{◌-◌, ◌<◌, ◌≤◌, length}
+-- `digest` keeps the sum below the modulus.
+use Rattle.std.proofs.Common.{◌<◌}
 use Rattle.cases.proofs.digest.Given as goal
 
-abbrev pub invariant-loop-i : goal.invariant-loop-i
-invariant-loop-i l = (l.i ≤ length l.s) × (l.sum < l.modulus)
-
-abbrev pub decreases-loop-i : goal.decreases-loop-i
-decreases-loop-i l = length l.s - l.i
+abbrev pub invariant-loop-byte : goal.invariant-loop-byte
+invariant-loop-byte l = l.sum < l.modulus
