@@ -1,5 +1,5 @@
 -- `map::next_filled`: a byte with no filled cell from `first` on is passed over.
-use Rattle.std.proofs.Common.{◌≡◌, ℕ, ◌+◌, ◌-◌, ◌*◌, ◌≤◌, ◌<◌, List, min, false, arith}
+use Rattle.std.proofs.Common.{◌≡◌, ℕ, ◌+◌, ◌*◌, ◌/◌, ◌%◌, ◌≤◌, ◌<◌, List, min, false, arith}
 use native.Mathlib.Decide.{dec_lt}
 use Rattle.map.specs.Map.{is_filled}
 use Rattle.map.proofs.Filled.{last_bits, first_of, masked, none-at-all, first-left, none-left}
@@ -18,27 +18,31 @@ further s first n r before after m u v = go (dec_lt m n)
 pub returns-then-cells-ne0 : goal.returns-then-cells-ne0
 returns-then-cells-ne0 c =
     let s = c.args.map.now in
-    let q = c.loop-byte.byte in
-    let skip = c.args.first - q * 8 in
+    let n = c.loop-n.n in
+    let q = n / 8 in
+    let skip = n % 8 in
     let e = masked s q skip (omega arith) in
-    let f = first-left s q skip (omega arith) (omega (arith, rw (c.saturating_sub.ensures, e) at c.if-cells-ne0.true)) in
-    let n = first_of s q skip in
-    let r : c.min.result ≡ min c.args.end n = rw (c.saturating_sub.ensures, e) at c.min.ensures in
+    let f = first-left s q skip (omega arith) (omega (arith, rw e at c.if-cells-ne0.true)) in
+    let k = first_of s q skip in
+    let r : c.min.result ≡ min c.args.end k = rw e at c.min.ensures in
     record {
-      from = omega (arith, f.low);
+      from = omega (arith, f.low, c.loop-n.invariant.0);
       to = omega arith;
-      skipped = λ m u v. further s c.args.first (q * 8) n c.loop-byte.invariant (λ m h v u. f.before m (omega arith) u) m (omega arith) v;
-      stopped = λ h. let same : c.min.result ≡ n = omega arith in rw same f.here;
+      skipped = λ m u v. further s c.args.first n k c.loop-n.invariant.1 (λ m h v u. f.before m (omega (arith, h)) u) m (omega arith) v;
+      stopped = λ h. let same : c.min.result ≡ k = omega arith in rw same f.here;
     }
 
-pub loop-byte-preserved : goal.loop-byte-preserved
-loop-byte-preserved c =
+pub loop-n-preserved : goal.loop-n-preserved
+loop-n-preserved c =
     let s = c.args.map.now in
-    let q = c.loop-byte.byte in
-    let skip = c.args.first - q * 8 in
+    let n = c.loop-n.n in
+    let q = n / 8 in
+    let skip = n % 8 in
     let none : last_bits s q skip ≡ 0 =
     elim c.if-map-byte-ne0.branch [
-      | then-map-byte-ne0+else-cells-ne0 w ↦ rw (w.saturating_sub.ensures, masked s q skip (omega arith)) at w.if-cells-ne0.false
+      | then-map-byte-ne0+else-cells-ne0 w ↦ rw (masked s q skip (omega arith)) at w.if-cells-ne0.false
       | else-map-byte-ne0 w ↦ none-at-all s q skip w.if-map-byte-ne0.false
-    ] in
-    λ m u v. further s c.args.first (q * 8) ((q + 1) * 8) c.loop-byte.invariant (λ m h v u. none-left s q skip none m (omega arith) (omega arith)) m u v
+    ] in (
+      omega (arith, c.loop-n.invariant.0),
+      λ m u v. further s c.args.first n (q * 8 + 8) c.loop-n.invariant.1 (λ m h v u. none-left s q skip none m (omega (arith, h)) (omega (arith, u))) m u v,
+    )

@@ -1,7 +1,10 @@
--- `map::next_filled`: no cell before the loop's byte is filled.
-use Rattle.std.proofs.Common.{◌≡◌, ℕ, ◌*◌, ◌≤◌, ◌<◌, false}
+-- `map::next_filled`: no cell before the loop's is filled.
+use Rattle.std.proofs.Common.{◌≡◌, ℕ, ◌-◌, ◌≤◌, ◌<◌, false}
 use Rattle.map.specs.Map.{is_filled}
 use Rattle.map.proofs.next_filled.Given as goal
 
-abbrev pub invariant-loop-byte : goal.invariant-loop-byte
-invariant-loop-byte l = (m : ℕ) → m < l.byte * 8 → l.first ≤ m → is_filled l.map m ≡ false
+abbrev pub invariant-loop-n : goal.invariant-loop-n
+invariant-loop-n l = (l.first ≤ l.n) × ((m : ℕ) → m < l.n → l.first ≤ m → is_filled l.map m ≡ false)
+
+abbrev pub decreases-loop-n : goal.decreases-loop-n
+decreases-loop-n l = l.end - l.n
