@@ -1,4 +1,4 @@
 pub mod Body
-pub mod Ply
 -- inner
 pub mod Inner
+pub mod Ply

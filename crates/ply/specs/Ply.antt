@@ -1,4 +1,4 @@
--- What the reading of a scanner's file says. Definitions only.
+-- What the reading of a scanner's file says. Definitions only; no public promise of the finished product cites them.
 use Rattle.std.specs.Prelude.{Option, Some, None}
 use Rattle.ply_header.specs.declared.Form.{Form}
 use Rattle.ply.specs.declared.Ply.{Ply}

@@ -5,7 +5,7 @@ use Rattle.layout.specs.Layout.{version1, record_fields, record_start}
 use Rattle.layout_write.specs.Writing.{can_hold_all, record_bytes}
 use Rattle.writable.specs.Fits.{triangle_numbers}
 use Rattle.writable.proofs.All.{all-at}
-use Rattle.frame_write.proofs.Pieces.{fill_none, fill-room, fill_more, fill-all, length-record}
+use Rattle.frame_write.proofs.Pieces.{fill_none, fill-room, fill_more, length-record}
 use Rattle.frame_write.proofs.put_records.Invariants.{bytes}
 use Rattle.frame_write.proofs.put_records.Goals as goal
 
@@ -31,6 +31,3 @@ loop-i-preserved c =
     let ten : i * 10 + 10 - i * 10 ≡ 10 = omega arith in
     fill_more (sized zs) c.requires.2 c.loop-i.invariant c.loop-i-test.true
     (c.put_at.ensures ∙ ap (λ (m : ℕ). take (record_start version1 i) out ++ (record_bytes version1 (take m (drop (i * 10) zs)) ++ drop 16 (drop (record_start version1 i) out))) ten)
-
-pub returns : goal.returns
-returns c = fill-all c.loop-i.invariant c.loop-i-test.false

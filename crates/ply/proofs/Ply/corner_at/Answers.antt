@@ -30,9 +30,6 @@ module _ {s : List ℕ} {f : Form} {at w : ℕ} (q : Cornered s f at) (small : w
     there : placed (vertex_at s f (f.body + w * b)) ≡ true
     there = ap (λ (at : ℕ). placed (vertex_at s f at)) (vertex-place f w z) ∙ q.places w named.0
 
-pub overflow_mul-index : goal.overflow_mul-index
-overflow_mul-index c = omega (arith, inside c.requires (search rules) c.word-index.ensures c.size-bytes.ensures.0)
-
 pub overflow_add-form : goal.overflow_add-form
 overflow_add-form c = omega (arith, inside c.requires (search rules) c.word-index.ensures c.size-bytes.ensures.0)
 
