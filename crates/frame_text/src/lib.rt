@@ -30,7 +30,7 @@ pub fn put_record(out: &mut [u8], at: usize, rec: Record) -> usize
     put_kind(out, behind, rec.kind)
 }
 
-// Puts a kind in words, as a comment.
+// Puts a kind in words, as a comment. A kind is a number, as the file and C callers have it, and 3 too is read, before question 7 refuses it.
 fn put_kind(out: &mut [u8], at: usize, kind: u32) -> usize
     requires { at + 16 ≤ length out.old }
     ensures { Puts out.old at (kind_text kind) out.new result × (result ≤ at + 16) }

@@ -128,7 +128,8 @@ fn side_fits(n: usize) -> bool
     1 <= n && n <= 64
 }
 
-// Puts the lines from cell `from` on, and answers where they end.
+// Puts the lines from cell `from` on, and answers where they end. A `while`, since a step passes over all cells up to the next filled one: no range counts
+// them.
 fn put_cells(map: &[u8], g: Grid, from: usize, out: &mut [u8]) -> Place
     requires { usable (length map.now) g ≡ true }
     ensures { Advances (line_of (is_filled map.now) g) (cell_count g) from 0 out.old result.cell result.at out.new × (result.cell ≡ stop_at (line_of (is_filled map.now) g) (length out.old) from (cell_count g - from)) }
