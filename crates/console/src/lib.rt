@@ -228,7 +228,7 @@ fn write<W: Write>(to: &mut W, out: &[u8], len: usize) -> io::Result<()> {
 }
 
 // Reads until the input ends or buf is full, and answers how many bytes there are. Where it leaves room, it has all of the
-// input: a read that fails is no end.
+// input: a read that fails is no end. The loop goes on by what each read gave, which no range counts.
 pub fn read_full<R: Read>(from: &mut R, buf: &mut [u8]) -> io::Result<usize>
     ensures in_bounds { IfOk result (λ len. IsPrefixLen len buf.new) }
     ensures bytes { MatchResult result (λ len. Consumes (R.remaining from.old) (R.remaining from.new) (take len buf.new))
@@ -246,7 +246,8 @@ pub fn read_full<R: Read>(from: &mut R, buf: &mut [u8]) -> io::Result<usize>
     Ok(done)
 }
 
-// Writes all bytes. It ends at the first write that fails or takes nothing.
+// Writes all bytes. It ends at the first write that fails or takes nothing. It is no call of std's `write_all`, so that what
+// a write means which takes nothing is proved here, and an edit of it is refused.
 fn put<W: Write>(to: &mut W, bytes: &[u8]) -> io::Result<()>
     ensures { OnOk result (Appends (W.contents to.old) (W.contents to.new) bytes.now) }
 {
