@@ -25,8 +25,8 @@ fn cell_range(
     requires { Withins range_bounds (least ∷ greatest ∷ origin ∷ step ∷ extent ∷ []) × (pos 0 <ℤ step) × (cells < 2 ^ 63) }
     ensures { Picks cells (ends_from least origin step extent) (begins_by greatest origin step) result }
 {
-    let before = (origin + extent - least).div_euclid(step);
-    let last = (greatest - origin).div_euclid(step);
+    let before = integers::floor_div(origin + extent - least, step);
+    let last = integers::floor_div(greatest - origin, step);
     let end = (last + 1).min(cells as i64).max(0);
     let first = (-before).max(0).min(end);
     CellRange {
