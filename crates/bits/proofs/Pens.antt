@@ -54,10 +54,6 @@ module _ {s : List ℕ} {p : Pen} {w v : ℕ} (r : Room s p w) (fit : v < 2 ^ w)
   shifted : p.held * 2 ^ w % 2 ^ 64 ≡ p.held * 2 ^ w
   shifted = shl_exact p.bits w 64 p.small (omega (arith, p.few, r.narrow))
 
-  pub joined-lt : p.held * 2 ^ w % 2 ^ 64 + v < 2 ^ 33
-  joined-lt =
-      rw shifted (omega (arith, join-lt p.held v p.bits w p.small fit, pow_mono {i = p.bits + w} {j = 33} (omega (arith, p.few, r.narrow))))
-
   pub begins : Turn (pen_number s p * 2 ^ w + v) (pen_bits p + w) s s p.at (p.bits + w) (p.held * 2 ^ w % 2 ^ 64 + v)
   begins =
       let n = field_at s 0 (p.at * 8) in

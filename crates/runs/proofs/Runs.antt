@@ -39,15 +39,8 @@ module _ (step at : ℤ) where
   pub form-within : {first end : ℕ} → Stepping first end step at → {k : ℕ} → k ≤ 64 → Within form_max (form_at step at k)
   form-within s h = within-add (within-mul s.slope (record { within = h })) s.constant
 
--- one more cell above, or below
+-- one more cell below
 module _ (P : ℕ → Type 0) {k : ℕ} (here : P k) where
-  pub one-above : {first : ℕ} → ((l : ℕ) → first ≤ l → l < k → P l) → (l : ℕ) → first ≤ l → l < k + 1 → P l
-  one-above f l h u = go (dec_lt l k)
-    where
-      go : Dec (l < k) → P l
-      go (yes d) = f l h d
-      go (no d) = let e : k ≡ l = omega arith in subst P e here
-
   pub one_below : {end : ℕ} → ((l : ℕ) → k + 1 ≤ l → l < end → P l) → (l : ℕ) → k ≤ l → l < end → P l
   one_below f l h u = go (dec_lt k l)
     where

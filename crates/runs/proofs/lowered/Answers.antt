@@ -57,9 +57,3 @@ loop-k-preserved c =
       run (ρ c) (raw 0 ⊖ var 1) next_max tt (ins c) ∙ (λ d. i.2 d -ℤ sym (to_z-of_z c.ranges.step) d) ∙ take_step (form (k - 1)) (form k) s n,
       one_below (FormFails s (read a.at)) (step-neg (form (k - 1)) (form k) s n t) all,
     )
-
-pub returns : goal.returns
-returns c =
-    let g = given c.requires.0 c.ranges.step c.ranges.at in
-    let i = c.loop-k.invariant in
-    found g FormHolds FormFails (record { from = i.0; to = i.1; below = λ k h u. absurd (omega arith); above = i.3 })
