@@ -5,8 +5,8 @@
 ghost use Rattle.std.specs.Prelude.{pos, ◌<ℤ◌};
 ghost use Rattle.integers.specs.Inner.{Floor};
 
-// x / d rounded down, where `/` rounds toward 0: the place of x among steps of size d. No `div_euclid`: for a controller it becomes three divisions, one of
-// them unsigned, which the library would want from outside as well.
+// x / d rounded down, where `/` rounds toward 0: the place of x among steps of size d. No `div_euclid`: it asks for the sign of d too. So a fill of small
+// triangles took 12 % more instructions, and the controller's library wanted an unsigned division from outside as well.
 pub fn floor_div(x: i64, d: i64) -> i64
     requires { pos 0 <ℤ d }
     ensures { Floor x d result }

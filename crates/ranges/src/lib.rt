@@ -3,7 +3,6 @@
 
 ghost use Rattle.std.specs.Prelude.{[], ◌∷◌, ◌^◌, ◌<◌, pos, ◌<ℤ◌};
 ghost use Rattle.integers.specs.Within.{Withins};
-ghost use Rattle.integers.specs.Inner.{Floor};
 ghost use Rattle.std.specs.Int.{int_min, int_max};
 ghost use Rattle.geometry.specs.Bounds.{BoundedTriangle};
 ghost use Rattle.geometry.specs.Geometry.{triangle};
@@ -12,17 +11,6 @@ ghost use Rattle.ranges.specs.Range.{range_bounds, axis_bounds, Picks, ends_from
 
 use geometry::Point;
 use grid::{BoxRange, CellRange, Lattice};
-
-// x / d rounded down, where `/` rounds toward 0: the place of x among steps of size d. No `div_euclid`: it asks whether d is negative too, and with it the
-// compiler no longer drew `box_range` into its callers: a fill of small triangles took 961 instructions in place of 857.
-fn floor_div(x: i64, d: i64) -> i64
-    requires { pos 0 <ℤ d }
-    ensures { Floor x d result }
-{
-    let q = x / d;
-    let m = x % d;
-    if m < 0 { q - 1 } else { q }
-}
 
 // The cells of an axis whose boxes the closed range from `least` to `greatest` touches: the box of cell i begins at origin + i × step, and
 // is `extent` long. Where it touches none, the range is empty, behind the cells that begin at or before `greatest`.
