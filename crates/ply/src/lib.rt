@@ -88,15 +88,7 @@ impl<'a> Ply<'a> {
         requires { Cornered self.now.file.now self.now.form at }
         ensures { result ≡ corner_at self.now.file.now self.now.form at }
     {
-        let form = self.form;
-        let index = ply_vertex::word(self.file, at) as usize;
-        let bytes = ply_vertex::size(form);
-        let v = ply_vertex::vertex(self.file, form, form.body + index * bytes);
-        Corner {
-            x: rounding::whole(v.x),
-            y: rounding::whole(v.y),
-            z: rounding::whole(v.z),
-        }
+        corner_at(self.file, self.form, at)
     }
 }
 
@@ -106,6 +98,21 @@ pub struct Corner {
     pub x: i32,
     pub y: i32,
     pub z: i32,
+}
+
+// The same of any bytes and form, where the index and the vertices are.
+pub fn corner_at(file: &[u8], form: Form, at: usize) -> Corner
+    requires { Cornered file.now form at }
+    ensures { result ≡ corner_at file.now form at }
+{
+    let index = ply_vertex::word(file, at) as usize;
+    let bytes = ply_vertex::size(form);
+    let v = ply_vertex::vertex(file, form, form.body + index * bytes);
+    Corner {
+        x: rounding::whole(v.x),
+        y: rounding::whole(v.y),
+        z: rounding::whole(v.z),
+    }
 }
 
 // Do so many faces from `at` on end exactly at the file's end?

@@ -1,4 +1,4 @@
--- `Ply::corner_at`: the vertex that the index names, rounded.
+-- `ply::corner_at`: the vertex that the index names, rounded.
 use Rattle.std.proofs.Common.{◌≡◌, List, ℕ, ◌+◌, ◌*◌, ◌<◌, ◌≤◌, true, length, nat_abs, sym, ap, ◌∙◌, w32, arith, rules}
 use mir.Facts.{to_z-of_z}
 use Rattle.bits.specs.Field.{twos_complement}
@@ -9,7 +9,7 @@ use Rattle.ply.specs.Body.{vertex_place, index_at, is_index}
 use Rattle.ply.specs.Inner.{Cornered}
 use Rattle.ply.proofs.Taken.{vertex-place, vertex-in}
 use Rattle.ply.proofs.Faces.{index_is, rounded}
-use Rattle.ply.proofs.Ply.corner_at.Goals as goal
+use Rattle.ply.proofs.corner_at.Goals as goal
 
 -- w is the index that was read, and b the bytes of a vertex
 module _ {s : List ℕ} {f : Form} {at w : ℕ} (q : Cornered s f at) (small : w < 4294967296) (e : w ≡ little_endian s at 4) where
@@ -51,9 +51,9 @@ whole-requires-3 c =
 
 pub returns : goal.returns
 returns c =
-    let f = c.args.self.now.form in
+    let f = c.args.form in
     let read = index c.requires (search rules) c.word-index.ensures in
-    let is = c.vertex-v.ensures ∙ ap (vertex_at c.args.self.now.file.now f) (vertex-place f c.word-index.result c.size-bytes.ensures.0 ∙ ap (vertex_place f) read) in
+    let is = c.vertex-v.ensures ∙ ap (vertex_at c.args.file.now f) (vertex-place f c.word-index.result c.size-bytes.ensures.0 ∙ ap (vertex_place f) read) in
     rounded is
     (to_z-of_z {w = w32} {z = c.whole.result} (search rules) ∙ c.whole.ensures)
     (to_z-of_z {w = w32} {z = c.whole-2.result} (search rules) ∙ c.whole-2.ensures)
