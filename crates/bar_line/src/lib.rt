@@ -72,7 +72,8 @@ fn put_steel(out: &mut [u8], at: usize, i: usize, rec: Record) -> usize
     frame_text::put_record(out, record, rec)
 }
 
-// Puts "POINT" and the weighted point of a triangle, in thousandths of a millimetre.
+// Puts "POINT" and the weighted point of a triangle, in thousandths of a millimetre. That the weights are few is asked, and no fact of the type: a
+// triangle of larger numbers has larger weights.
 fn put_point(out: &mut [u8], at: usize, t: Triangle, w: Weights) -> usize
     requires { TriangleWithin (2 ^ 13) t × FewWeights w × (at + 43 ≤ length out.old) }
     ensures { Puts out.old at (point_line t w) out.new result }

@@ -65,6 +65,7 @@ fn square_passes(x0: i64, x1: i64, x2: i64) -> bool
 }
 
 impl<'a> Columns<'a> {
+    // What is asked here and below speaks of the lent map's length and of the hint, which are not the columns' own.
     // Fills the cells of column (i, j), where x0, x1 and x2 are the edges' forms of uv there, none negative (names are plainer than places in an array).
     // The answer is a hint for the next column: the first cell that the plane passes.
     fn column(

@@ -27,7 +27,8 @@ pub fn version_1() -> WritableLayout
     }
 }
 
-// Puts number i of a list, as it is.
+// Puts number i of a list, as it is. Three functions, and not one over a field's form: that would ask for the form at every field. What they ask
+// for speaks of a pen, the bytes, a field and a number together, so that no type of one could say it.
 fn put_plain(pen: Pen, out: &mut [u8], width: usize, numbers: &[i32], i: usize) -> Pen
     requires { Puttable out.old pen (field plain width) numbers.now i }
     ensures { PutNumber out.old pen (field plain width) numbers.now i out.new result }

@@ -72,7 +72,8 @@ impl Slab {
         }
     }
 
-    // The part of a run that lies in the slab, where the number on the other axis is `at`. It is sought from `near`.
+    // The part of a run that lies in the slab, where the number on the other axis is `at`. It is sought from `near`. What is asked of the three numbers
+    // speaks of them together: `near` is in the run.
     fn narrow(&self, run: CellRange, near: usize, at: usize) -> CellRange
         requires { ReadyRun run near at }
         ensures { Narrows run (slab_along self.now at) result }

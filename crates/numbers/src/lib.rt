@@ -8,7 +8,8 @@ ghost use Rattle.numbers.specs.Inner.{Small};
 use geometry::Triangle;
 use layout::{Header, Record};
 
-// The header's values, as they are put out: a list, as the calls for C have it.
+// The header's values, as they are put out: a list, as the calls for C have it. That they are small is asked, and no fact of the type: a header is read
+// before it is known to be accepted.
 pub fn header_numbers(header: Header) -> [i32; 9]
     requires { Small (header_numbers header) }
     ensures { result ≡ header_numbers header }

@@ -126,7 +126,7 @@ fn read_line(s: &[u8], at: usize, text: &[u8]) -> Option<usize>
     read_word(s, skip_comments(s, at), text)
 }
 
-// The place behind the comment lines that begin at a place.
+// The place behind the comment lines that begin at a place. No `for`: where the next comment would begin is known when the last has ended.
 fn skip_comments(s: &[u8], at: usize) -> usize
     ensures { result ≡ past_comments s.now at }
 {

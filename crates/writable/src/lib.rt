@@ -141,7 +141,7 @@ fn all_between(bounds: Bounds, numbers: &[i32]) -> bool
     good
 }
 
-// Is the kind of each triangle 0, 1 or 2?
+// Is the kind of each triangle 0, 1 or 2? By numbers, and not over the list: it looks at each tenth of them.
 fn kinds_fit(triangles: &[i32], count: usize) -> bool
     requires { length triangles.now ≡ count * 10 }
     ensures { result ≡ kinds_between triangles.now count }
