@@ -5,8 +5,9 @@ ghost use Rattle.std.specs.Prelude.{[], ◌∷◌, ◌≡◌, ◌≤◌};
 ghost use Rattle.integers.specs.Within.{Withins};
 ghost use Rattle.geometry.specs.Bounds.{index_max, BoundedPoint};
 ghost use Rattle.grid.specs.Usable.{UsableLattice};
-ghost use Rattle.entry.specs.Entry.{earlier, later};
-ghost use Rattle.entry.specs.Inner.{entry_bounds, axis_entry_of, entries_of, entry_by, layer_entry, entry_at};
+ghost use Rattle.entry.specs.Entry.{over, earlier, later};
+ghost use Rattle.entry.specs.Parts.{BoundedRatio, BoundedApproach};
+ghost use Rattle.entry.specs.Inner.{entry_bounds, axis_entry, axis_entry_of, entries_of, entry_by, layer_entry, entry_at};
 
 use geometry::Point;
 use grid::Lattice;
@@ -63,6 +64,14 @@ pub struct Entries {
 }
 
 impl Fraction {
+    // The fraction num / den.
+    pub fn new(num: i64, den: i64) -> Fraction
+        requires { BoundedRatio (record { num = num; den = den }) }
+        ensures { result ≡ over num den }
+    {
+        Fraction { num, den }
+    }
+
     // Is this fraction less than g? By cross-multiplication, so that nothing is rounded. It is no PartialOrd: that wants
     // numbers of which neither is less to be equal, and 1/2 and 2/4 are not as structs.
     pub fn is_earlier(self, g: Fraction) -> bool
@@ -82,6 +91,14 @@ impl Fraction {
 }
 
 impl AxisEntry {
+    // The fractions (num + slope × i) / den.
+    pub fn new(num: i64, slope: i64, den: i64) -> AxisEntry
+        requires { BoundedApproach (record { num = num; slope = slope; den = den }) }
+        ensures { result ≡ axis_entry num slope den }
+    {
+        AxisEntry { num, slope, den }
+    }
+
     // On an axis, how the leg from a to b comes to the boxes that begin at `first`, `first` + `step` and so on: going up at
     // their low side, going down at their high side; else it is there from the start.
     fn of_leg(a: i64, b: i64, first: i64, step: i64, extent: i64) -> AxisEntry
@@ -141,7 +158,7 @@ impl Entries {
         requires { k ≤ index_max }
         ensures { result ≡ layer_entry self.now k }
     {
-        Fraction { num: 0, den: 1 }.later_by(self.z, k)
+        Fraction::new(0, 1).later_by(self.z, k)
     }
 
     // The fraction at which the leg enters the box of cell (i, j, k): it has started, and has come to the box on every axis.

@@ -7,6 +7,7 @@ ghost use Rattle.integers.specs.Within.{Within, Withins};
 ghost use Rattle.geometry.specs.Bounds.{index_max, BoundedPoint};
 ghost use Rattle.grid.specs.Usable.{UsableLattice};
 ghost use Rattle.runs.specs.Run.{Narrows};
+ghost use Rattle.legs.specs.Form.{BoundedForm};
 ghost use Rattle.legs.specs.Slab.{rising_slab, slab_of, slabs_of, slab_holds, slab_along, row_holds, column_holds, cell_holds, slab_bounds, ReadyRun};
 
 use geometry::Point;
@@ -38,12 +39,20 @@ impl Model for Slab {
 // A slab in each plane: x and y, y and z, z and x.
 #[derive(Clone, Copy)]
 pub struct Slabs {
-    xy: Slab,
-    yz: Slab,
-    zx: Slab,
+    pub xy: Slab,
+    pub yz: Slab,
+    pub zx: Slab,
 }
 
 impl Slab {
+    // The slab of a form and its reach.
+    pub fn new(a: i64, b: i64, c: i64, reach: i64) -> Slab
+        requires { BoundedForm (record { a = a; b = b; c = c; reach = reach }) }
+        ensures { result ≡ record { a = a; b = b; c = c; reach = reach } }
+    {
+        Slab { a, b, c, reach }
+    }
+
     // The slab of a leg that goes by (ea, eb) from (va, vb), which is measured from the first box's corner. The leg is taken
     // in the direction in which the form does not fall with i.
     fn of_leg(ea: i64, eb: i64, va: i64, vb: i64, step: i64, extent: i64) -> Slab
