@@ -162,7 +162,9 @@ pub fn read_limited_input(rt: &impl Streams, buf: &mut [u8]) -> Result<usize, St
 }
 
 // Writes the first len bytes to standard output. Where not all are taken, it says LOST; but nothing where nobody reads them.
-pub fn send(rt: &impl Streams, out: &[u8], len: usize) -> Result<(), Stopped> {
+pub fn send(rt: &impl Streams, out: &[u8], len: usize) -> Result<(), Stopped>
+    ensures { IfErr result (λ why. (why ≡ Stopped.Lost) ⊎ (why ≡ Stopped.Gone)) }
+{
     match write(&mut rt.output(), out, len) {
         Ok(()) => Ok(()),
         Err(error) => Err(lose(rt, error.kind())),
@@ -199,7 +201,9 @@ pub fn send_frame(
     rt: &impl Streams,
     out: &[u8],
     written: Result<usize, Limit>,
-) -> Result<(), Stopped> {
+) -> Result<(), Stopped>
+    ensures { IfErr result (λ why. (why ≡ Stopped.Lost) ⊎ (why ≡ Stopped.Gone)) }
+{
     match written {
         Ok(len) => {
             send(rt, out, len)?;
