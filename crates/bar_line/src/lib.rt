@@ -84,7 +84,7 @@ fn put_point(out: &mut [u8], at: usize, t: Triangle, w: Weights) -> usize
     text::put_byte(out, behind, b'\n')
 }
 
-// The weighted point of a triangle, in thousandths.
+// The weighted point of a triangle, in thousandths: a list, as `text::put_numbers` takes it.
 fn weighted_point(t: Triangle, w: Weights) -> [i32; 3]
     requires { TriangleWithin (2 ^ 13) t × FewWeights w }
     ensures { result ≡ point_numbers t w }

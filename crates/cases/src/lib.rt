@@ -22,7 +22,7 @@ use points::Point;
 use refusal::{Limit, Refusal};
 use std::io;
 
-// Bytes at the start of a room: the frame file, or the lent buffer.
+// Bytes at the start of a room: the frame file, or the lent buffer. The rooms are arrays: there is no heap.
 #[derive(Drop)]
 struct Held<'a> {
     room: &'a mut [u8],
@@ -55,7 +55,8 @@ fn run_lines(rt: &impl Print, text: &[u8], file: &mut [u8], map: &mut [u8]) -> i
     Ok(())
 }
 
-// Runs a line: it changes the file or the buffer, or puts a question.
+// Runs a line: it changes the file or the buffer, or puts a question. A `match`, here and below, and no table of functions: each arm calls another with
+// arguments of its own.
 fn run_line(
     rt: &impl Print,
     line: &[u8],

@@ -118,7 +118,7 @@ fn repeat(value: i16, times: usize, out: &mut [i16], at: usize) -> usize {
     end
 }
 
-// The number of a word, which may have a minus sign.
+// The number of a word, which may have a minus sign. By hand: std's `parse` refuses a number that no 16 bits hold.
 fn signed(word: &[u8]) -> i16 {
     let size = number(word) % 65536;
     if word.contains(&b'-') {

@@ -76,7 +76,7 @@ fn check(
     Ok(())
 }
 
-// The numbers of the header that is written.
+// The numbers of the header that is written: a list, as the layout's fields take them.
 pub fn header_numbers(grid: GridValues, count: usize) -> [i32; 10]
     requires { count < 4096 }
     ensures { result ≡ header_to_write grid count }

@@ -167,7 +167,7 @@ fn put_next(map: &[u8], g: Grid, cell: usize, out: &mut [u8], at: usize) -> Plac
 }
 
 // Puts "REFUSED number place" at the start of the output, and answers its length. Where the output has fewer than 64
-// bytes it puts nothing, and answers 0.
+// bytes it puts nothing, and answers 0, which is what it put.
 pub fn put_refusal(limit: Limit, out: &mut [u8]) -> usize
     ensures { (result ≡ length (refusal_text (refusal_of limit) out.old)) × (out.new ≡ spliced out.old 0 (refusal_text (refusal_of limit) out.old)) }
 {

@@ -75,7 +75,7 @@ fn put_faces(ply: &Ply, out: &mut [u8])
     }
 }
 
-// The ten numbers of the triangle of the face at `at`.
+// The ten numbers of the triangle of the face at `at`: a list, as the writer takes a record.
 fn triangle(ply: &Ply, at: usize) -> [i32; 10]
     requires { Faced ply.now.file.now ply.now.form at }
     ensures { result ≡ triangle_at ply.now.file.now ply.now.form at }

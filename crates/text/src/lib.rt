@@ -1,5 +1,6 @@
 // The text of a listing and of other answers, into bytes that the caller lends: lines, and what they are made of, numbers in
-// base ten, words and bytes. Each function answers the place behind what it puts.
+// base ten, words and bytes. Each function answers the place behind what it puts: there is no heap, and the bytes are the caller's, so that what is put has a
+// place and is no text of its own.
 #![tactic(auto)]
 
 ghost use Rattle.std.specs.Prelude.{[], ◌∷◌, ◌≡◌, ◌+◌, ◌*◌, ◌<◌, ◌≤◌, length};

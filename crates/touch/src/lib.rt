@@ -42,7 +42,8 @@ pub fn search(g: Grid, map: &[u8], slabs: &Slabs, block: BoxRange) -> Option<usi
     found
 }
 
-// The first filled cell of a row, from `first` on and below `end`, or `end`. The row's cells are numbered from `row`.
+// The first filled cell of a row, from `first` on and below `end`, or `end`: where the search ended, so that a loop goes on from there (as in the map's own
+// `next_filled`). The row's cells are numbered from `row`.
 pub fn next_cell(map: &[u8], row: usize, first: usize, end: usize) -> usize
     requires { (first ≤ end) × (row + end ≤ 8 * length map.now) × (row + end ≤ 262144) }
     ensures { NextCell map.now row first end result }

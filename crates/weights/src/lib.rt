@@ -45,7 +45,7 @@ fn sides_on(a: i64, b: i64, c: i64, p: i64, extent: i64) -> Sides
     }
 }
 
-// The nine rows of a triangle and a cube: the weights themselves, the low sides and the high sides.
+// The nine rows of a triangle and a cube: the weights themselves, the low sides and the high sides. There is no heap, so that they stand in an array.
 fn rows(t: Triangle, p: Point, extent: i64) -> [Point; 9]
     requires { BoundedTriangle t × BoundedPoint p × Within extent_max extent }
     ensures { result ≡ rows t p (cube extent) }
