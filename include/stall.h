@@ -15,7 +15,7 @@
  * - Bytes and numbers behind what a call writes keep their contents.
  * - Stack use: see docs/PERFORMANCE.md.
  * - What the archive asks of the program that links it: on x86-64 memset; on a Cortex-M3 __aeabi_ldivmod, which libgcc has,
- *   and __aeabi_memclr, __aeabi_memclr8, __aeabi_memcpy and __aeabi_memcpy8, which a C library has. `nm -u libstall.a` lists them.
+ *   and __aeabi_memclr, __aeabi_memclr8 and __aeabi_memcpy, which a C library has. `nm -u libstall.a` lists them.
  *
  * The answer is one number of 64 bits:
  *

@@ -5,7 +5,7 @@
 --     header-passed                questions 1 to 6, of which 2, 3 and 6 as facts
 --     accepted                     what an accepted file is
 --     usable, map-most             its grid is usable, and its map has at most 32,768 bytes
---     held, followed, sides        what the readers of a record ask, and what the number of the grid's cells asks
+--     held, follows, sides         what the readers of a record ask, and what the number of the grid's cells asks
 --     check-err                    the limit of a file, handed on by a `?`
 -- Assumes nothing.
 use mathlib.Core.List.{List}
@@ -35,6 +35,7 @@ use Rattle.layout.proofs.Bounds.{grid-within, count-lt}
 use Rattle.frame.specs.declared.Frame.{Frame}
 use Rattle.frame.specs.Frame.{said_check}
 use Rattle.frame.specs.File.{header_of}
+use Rattle.frame.specs.Inner.{HasRecord, Followed}
 use Rattle.frame.specs.Questions.{header_questions, file_questions, kind_question, checked, contents, reading}
 
 -- Questions 1 to 7, by the two parts of the check.
@@ -117,11 +118,11 @@ module _ {s : List ℕ} {h : Header} (a : AcceptedFile s h) where
 
 -- ---- what the reader of a record asks
 module _ (s : List ℕ) {h : Header} (e : checked s ≡ gives h) where
-  pub held : {i : ℕ} → i < h.count → (i < 4096) × (record_start version1 i ≤ length s)
-  held l = let a = accepted s h e in (omega (arith, a.count), a.records _ l)
+  pub held : {i : ℕ} → i < h.count → HasRecord s i
+  held l = let a = accepted s h e in record { number = omega (arith, a.count); start = a.records _ l }
 
-  pub followed : (i : ℕ) → i + 1 < h.count → record_start version1 i + 32 ≤ length s
-  followed = (accepted s h e).followed
+  pub follows : {i : ℕ} → i + 1 < h.count → Followed s i
+  follows l = let a = accepted s h e in record { number = omega (arith, a.count); room = a.followed _ l }
 
   -- what the number of the grid's cells asks
   pub sides : (h.grid.nx ≤ 64) × (h.grid.ny ≤ 64) × (h.grid.nz ≤ 64)

@@ -1,3 +1,5 @@
 pub mod File
 pub mod Questions
 pub mod Frame
+-- inner
+pub mod Inner

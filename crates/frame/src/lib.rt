@@ -13,6 +13,7 @@ ghost use Rattle.layout.specs.Layout.{record_start};
 ghost use Rattle.layout.specs.Values.{reserved_in};
 ghost use Rattle.layout.specs.Taken.{BoundedHeader};
 ghost use Rattle.frame.specs.File.{record_of};
+ghost use Rattle.frame.specs.Inner.{HasRecord, Followed};
 ghost use Rattle.frame.specs.Questions.{axis_fits, extent_fits, header_questions, kind_question, checked, reading};
 
 use bits::Inside;
@@ -44,6 +45,13 @@ impl<'a> Frame<'a> {
         Ok(Frame { file, header })
     }
 
+    // The file itself.
+    pub fn file(&self) -> &'a [u8]
+        ensures { result.now ≡ self.now.file.now }
+    {
+        self.file
+    }
+
     // The header's values.
     pub fn header(&self) -> Header
         ensures { result ≡ self.now.header }
@@ -51,18 +59,12 @@ impl<'a> Frame<'a> {
         self.header
     }
 
-    // Record i, for a fill. Every record but the last has 32 bytes there, and is read with no further look at the length. A fill's loop is the only
-    // caller, so that the compiler draws it in, and knows each field's place.
+    // Record i, for a fill.
     pub fn record(&self, i: usize) -> Record
         requires { i < self.now.header.count }
         ensures { result ≡ record_of self.now.file.now i }
     {
-        let layout = layout::version_1();
-        let part = layout::from_record(layout, self.file, i);
-        if 32 <= part.len() {
-            return layout::read_record(layout, Inside { bytes: part });
-        }
-        layout::read_record(layout, part)
+        record(self.file, i)
     }
 
     // Record i, be it the last or not: for a caller that reads one.
@@ -70,21 +72,51 @@ impl<'a> Frame<'a> {
         requires { i < self.now.header.count }
         ensures { result ≡ record_of self.now.file.now i }
     {
-        let layout = layout::version_1();
-        let own = layout::from_record(layout, self.file, i);
-        layout::read_record(layout, own)
+        one_record(self.file, i)
     }
 
-    // The same of a record with another behind it, as all but the last have: its 32 bytes are there, and no length is looked at at all. It is for a
-    // search that leaves most records after some of their fields, so that the others are not taken.
+    // Record i with another behind it, as all but the last have: for a search that leaves most records after some of their fields.
     pub fn record_inside(&self, i: usize) -> Record
         requires { i + 1 < self.now.header.count }
         ensures { result ≡ record_of self.now.file.now i }
     {
-        let layout = layout::version_1();
-        let bytes = layout::from_record(layout, self.file, i);
-        layout::read_record(layout, Inside { bytes })
+        record_inside(self.file, i)
     }
+}
+
+// Record i of any bytes that have it, accepted or not, for a fill. Every record but the last has 32 bytes there, and is read with no further look at the
+// length. A fill's loop is the only caller, so that the compiler draws it in, and knows each field's place.
+pub fn record(file: &[u8], i: usize) -> Record
+    requires { HasRecord file.now i }
+    ensures { result ≡ record_of file.now i }
+{
+    let layout = layout::version_1();
+    let part = layout::from_record(layout, file, i);
+    if 32 <= part.len() {
+        return layout::read_record(layout, Inside { bytes: part });
+    }
+    layout::read_record(layout, part)
+}
+
+// Record i of any bytes that have it, be it the last or not: for a caller that reads one.
+pub fn one_record(file: &[u8], i: usize) -> Record
+    requires { HasRecord file.now i }
+    ensures { result ≡ record_of file.now i }
+{
+    let layout = layout::version_1();
+    let own = layout::from_record(layout, file, i);
+    layout::read_record(layout, own)
+}
+
+// The same of a record with another behind it: its 32 bytes are there, and no length is looked at at all. It is for a search that leaves most records
+// after some of their fields, so that the others are not taken.
+pub fn record_inside(file: &[u8], i: usize) -> Record
+    requires { Followed file.now i }
+    ensures { result ≡ record_of file.now i }
+{
+    let layout = layout::version_1();
+    let bytes = layout::from_record(layout, file, i);
+    layout::read_record(layout, Inside { bytes })
 }
 
 // What a plain reading gives: the header's values with a record's, or with none.

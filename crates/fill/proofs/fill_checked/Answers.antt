@@ -30,7 +30,7 @@ pub returns : goal.returns
 returns c =
     let file = c.args.frame.now.file.now in
     let old = c.args.map.now in
-    let new = c.fill_records.new.map in
+    let new = c.add_records.new.map in
     let fact = c.args.frame.now.accepted in
     -- the header that was read is the file's
     let is : c.header-header.result ≡ header_of file = c.header-header.ensures ∙ sym (header_is file _ fact) in
@@ -38,7 +38,7 @@ returns c =
     let n = c.cell_count-n.ensures.0 ∙ ap (λ (h : Header). cell_count h.grid) is in
     let len = c.map_length-len.ensures ∙ ap map_length n in
     let room : map_length cells ≤ length old = rw len at c.if-map-len.false in
-    let added = subst (λ (l : List ℕ). AddsRecords file 0 c.header-header.result.count l new) (c.clear.ensures ∙ ap (λ (n : ℕ). replicate n 0 ++ drop n old) len) c.fill_records.ensures in
+    let added = subst (λ (l : List ℕ). AddsRecords file 0 c.header-header.result.count l new) (c.clear.ensures ∙ ap (λ (n : ℕ). replicate n 0 ++ drop n old) len) (rw c.file.ensures at c.add_records.ensures) in
     let adds : Adds cells (filled_in file) (replicate (map_length cells) 0 ++ drop (map_length cells) old) new =
     adds-all file (subst (λ (h : Header). AddsRecords file 0 h.count (replicate (map_length cells) 0 ++ drop (map_length cells) old) new) is added) in
     let (said, left) = fill-passed file old (header_of file) (fact ∙ ap gives (sym (header_is file _ fact))) room in (

@@ -1,6 +1,6 @@
--- `Frame::record` meets its contract.
+-- `Frame::record` meets its contract: an accepted file has its records.
 use Rattle.frame.proofs.Accepted.{held}
 use Rattle.frame.proofs.Frame.record.Goals as goal
 
-pub from_record-part-requires : goal.from_record-part-requires
-from_record-part-requires c = rw c.version_1-layout.ensures (held _ c.args.self.now.accepted c.requires)
+pub record-requires : goal.record-requires
+record-requires c = held _ c.args.self.now.accepted c.requires

@@ -1,4 +1,4 @@
--- `fill::fill_records`: the triangles before the loop's are in the map.
+-- `fill::add_records`: the triangles before the loop's are in the map.
 use Rattle.std.proofs.Common.{ℕ, ◌+◌, List, Bool}
 use Rattle.geometry.specs.declared.Triangle.{Triangle}
 use Rattle.grid.specs.declared.Grid.{Grid}
@@ -9,7 +9,7 @@ use Rattle.map.specs.Map.{tabulate}
 use Rattle.frame.specs.File.{record_of}
 use Rattle.triangles.specs.Add.{Adds}
 use Rattle.fill.specs.Fill.{any_of}
-use Rattle.fill.proofs.fill_records.Given as goal
+use Rattle.fill.proofs.add_records.Given as goal
 
 -- the triangle of record first + i, and whether it overlaps cell n
 abbrev pub record-at : List ℕ → (first i : ℕ) → Triangle
@@ -19,4 +19,4 @@ abbrev pub fills : Grid → Lattice → ℕ → Triangle → Bool
 fills g l n t = overlaps_cell g l t n
 
 abbrev pub invariant-loop-i : goal.invariant-loop-i
-invariant-loop-i l = Adds (cell_count l.g) (λ n. any_of (fills l.g l.l n) (tabulate (record-at l.frame.file.now l.first) l.i)) l.initial.map l.map
+invariant-loop-i l = Adds (cell_count l.g) (λ n. any_of (fills l.g l.l n) (tabulate (record-at l.file l.first) l.i)) l.initial.map l.map
