@@ -100,13 +100,14 @@ impl<S: Source> Cursor<S> {
     }
 
     // The signed field of `width` bits at the cursor, and the cursor behind it.
-    pub fn take_signed(self, width: usize) -> (i64, Cursor<S>)
+    pub fn take_signed(mut self, width: usize) -> (i64, Cursor<S>)
         requires { (1 ≤ width) × (width ≤ 25) × (self.at + width < 2 ^ 64) × (self.at / 8 < S.words self.source) }
         ensures value { result.0 ≡ signed_at (S.bytes self.source) self.at width }
         ensures behind { result.1 ≡ record self { at = self.at + width } }
     {
         let (field, behind) = self.take(width);
-        (sign_extend(field, width), behind)
+        self = behind;
+        (sign_extend(field, width), self)
     }
 }
 
@@ -150,7 +151,7 @@ impl Pen {
 
     // Puts an unsigned field of `width` bits, and hands the pen behind it back. Whole bytes go out at once: the bits that are left count them, and a
     // `for` over their number is no plainer. By value, as the cursor: a rule of the project (docs/DECISIONS.md, forms).
-    pub fn put(self, out: &mut [u8], width: usize, value: u64) -> Pen
+    pub fn put(mut self, out: &mut [u8], width: usize, value: u64) -> Pen
         requires { Room out.old self width × (value < 2 ^ width) }
         ensures { Put out.old self width value out.new result }
     {
@@ -164,7 +165,8 @@ impl Pen {
             at += 1;
             held = held % (1u64 << bits);
         }
-        Pen { at, bits, held }
+        self = Pen { at, bits, held };
+        self
     }
 
     // Puts a signed field of `width` bits.
