@@ -16,8 +16,8 @@ use std::marker::Model;
 // num / den, where den is positive: a fraction of a leg, 0 at its start and 1 at its end.
 #[derive(Clone, Copy)]
 pub struct Fraction {
-    num: i64,
-    den: i64,
+    pub num: i64,
+    pub den: i64,
 }
 
 // The numbers of a fraction are so small that two of them are compared within 64 bits.
@@ -37,9 +37,9 @@ impl Model for Fraction {
 // On an axis, a leg comes to the box with number i at the fraction (num + slope × i) / den.
 #[derive(Clone, Copy)]
 pub struct AxisEntry {
-    num: i64,
-    slope: i64,
-    den: i64,
+    pub num: i64,
+    pub slope: i64,
+    pub den: i64,
 }
 
 // The numbers are so small that the fractions of a grid's boxes are, and the denominator is positive.

@@ -21,22 +21,22 @@ use legs::Slabs;
 // cells, its slabs, and where it enters the cells.
 #[derive(Clone, Copy)]
 pub struct Traversal<'a> {
-    map: &'a [u8],
-    g: Grid,
-    block: BoxRange,
-    slabs: Slabs,
-    entries: Entries,
-    ghost grid: { BoundedGrid g },
-    ghost room: { map_length (cell_count g) ≤ length map.now },
-    ghost inside: { InGrid g block },
-    ghost bounded: { BoundedEntries entries },
+    pub map: &'a [u8],
+    pub g: Grid,
+    pub block: BoxRange,
+    pub slabs: Slabs,
+    pub entries: Entries,
+    pub ghost grid: { BoundedGrid g },
+    pub ghost room: { map_length (cell_count g) ≤ length map.now },
+    pub ghost inside: { InGrid g block },
+    pub ghost bounded: { BoundedEntries entries },
 }
 
 // The cell found so far, and the fraction of the leg at which it is entered.
 #[derive(Clone, Copy)]
 pub struct Best {
-    cell: usize,
-    at: Fraction,
+    pub cell: usize,
+    pub at: Fraction,
 }
 
 // The filled cell that the leg from a to b reaches first. A leg that touches no filled cell is searched once, for the

@@ -17,10 +17,10 @@ use std::marker::Model;
 // In the plane of two axes, the cells at which a × i + b × j + c is from 0 to `reach`, both included.
 #[derive(Clone, Copy)]
 pub struct Slab {
-    a: i64,
-    b: i64,
-    c: i64,
-    reach: i64,
+    pub a: i64,
+    pub b: i64,
+    pub c: i64,
+    pub reach: i64,
 }
 
 // Of every slab the form does not fall with i, and its numbers are as small as runs of cells ask.
