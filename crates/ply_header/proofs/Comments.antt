@@ -90,22 +90,22 @@ no-feed [] = true
 no-feed (c ∷ text) = not (eqb c 10) && no-feed text
 
 -- The line feed of a comment is not in a text that has none, and so it is searched from behind that text.
-through : (s text : List ℕ) (i j : ℕ) → no-feed text ≡ true → i ≤ length s → behind s i text ≡ Some j
-    → (i ≤ j) × (j ≤ length s) × (past s true i (drop i s) ≡ past s true j (drop j s))
+through : (s text : List ℕ) (i j : ℕ) → no-feed text ≡ true → behind s i text ≡ Some j
+    → (i ≤ j) × (i ≤ length s → j ≤ length s) × (past s true i (drop i s) ≡ past s true j (drop j s))
 unfolding behind past
-through s [] i j n h e = let same : i ≡ j = cc in (omega arith, omega arith, ap (λ (k : ℕ). past s true k (drop k s)) same)
-through s (c ∷ text) i j n h e =
+through s [] i j n e = let same : i ≡ j = cc in (omega arith, (λ h. omega arith), ap (λ (k : ℕ). past s true k (drop k s)) same)
+through s (c ∷ text) i j n e =
     let f = first s i c text j e in
     let m = (and-eq-true_iff (not (eqb c 10)) (no-feed text)).0 n in
-    let t = through s text (i + 1) j m.1 (omega arith) f.2 in
-    (omega arith, t.1, rw (more s i f.0, f.1) (ap (λ (b : Bool). past s b (i + 1) (drop (i + 1) s)) m.0 ∙ t.2))
+    let t = through s text (i + 1) j m.1 f.2 in
+    (omega arith, (λ _. t.1 (omega (arith, f.0))), rw (more s i f.0, f.1) (ap (λ (b : Bool). past s b (i + 1) (drop (i + 1) s)) m.0 ∙ t.2))
 
 pub passed : (s : List ℕ) (i j : ℕ) → comment_word s i ≡ Some j → (i < j) × (j ≤ length s) × (past s false i (drop i s) ≡ past s true j (drop j s))
 unfolding comment_word past
 passed s i j e =
     let f = first s i 99 (bytes "omment") j (sure (comment s i) _ j e).1 in
-    let t = through s (bytes "omment") (i + 1) j refl (omega arith) f.2 in
-    (omega arith, t.1, rw (more s i f.0, if_word s i ∙ ap stands e) t.2)
+    let t = through s (bytes "omment") (i + 1) j refl f.2 in
+    (omega arith, t.1 (omega (arith, f.0)), rw (more s i f.0, if_word s i ∙ ap stands e) t.2)
 
 -- ---- to the line feed
 pub record Inside (s : List ℕ) (at i : ℕ) : Type 0 where
