@@ -1,4 +1,4 @@
-// Runs the cases that standard input has as text (see text), line by line, and prints a line for each question.
+// Runs the cases that standard input has as text (see words), line by line, and prints a line for each question.
 //     given: HEX                  the frame file is these bytes
 //     again 4094: HEX             these bytes, 4,094 times over, stand behind it
 //     noise 65520:                so many pseudo-random bytes, of records of kind 0, stand behind it
@@ -13,7 +13,7 @@
 // next line that changes them: a fill leaves its map for the routes behind it.
 #![tactic(auto)]
 
-mod text;
+mod words;
 
 ghost use Rattle.std.specs.Prelude.{◌≡◌, ◌<◌, ◌≤◌, length};
 
@@ -63,20 +63,20 @@ fn run_line(
     file: &mut Held<'_>,
     map: &mut Held<'_>,
 ) -> io::Result<()> {
-    let (head, values) = text::parted(line, b':');
-    let (_, name) = text::parted(head, b' ');
-    let times = text::number(name);
+    let (head, values) = words::parted(line, b':');
+    let (_, name) = words::parted(head, b' ');
+    let times = words::number(name);
     let (file_len, map_len) = (file.len, map.len);
-    match text::letter(line) {
+    match words::letter(line) {
         b'#' => {}
-        b'g' => file.len = text::put_bytes(values, 1, file.room, 0),
-        b'a' => file.len = text::put_bytes(values, times, file.room, file_len),
+        b'g' => file.len = words::put_bytes(values, 1, file.room, 0),
+        b'a' => file.len = words::put_bytes(values, times, file.room, file_len),
         b'n' => file.len = put_noise(times, file.room, file_len),
-        b'b' => map.len = text::put_bytes(values, times, map.room, 0),
+        b'b' => map.len = words::put_bytes(values, times, map.room, 0),
         letter => {
             report::begin(rt, name)?;
-            let lent = text::first_mut(map.room, map_len);
-            ask(rt, letter, values, text::first(file.room, file_len), lent)?;
+            let lent = words::first_mut(map.room, map_len);
+            ask(rt, letter, values, words::first(file.room, file_len), lent)?;
             report::end(rt)?;
         }
     }
@@ -86,7 +86,7 @@ fn run_line(
 // Puts a question, and prints the answer.
 fn ask(rt: &impl Print, letter: u8, values: &[u8], file: &[u8], map: &mut [u8]) -> io::Result<()> {
     match letter {
-        b'r' => report::reading(rt, frame::read(file, text::number(values))),
+        b'r' => report::reading(rt, frame::read(file, words::number(values))),
         b't' => report::route(rt, answer(values, file, map)),
         b'p' => ask_points(rt, values, file, map),
         _ => ask_fill(rt, letter, values, file, map),
@@ -115,18 +115,18 @@ fn ask_fill(
 // What the test of a route of some numbers answers.
 fn answer(values: &[u8], file: &[u8], map: &[u8]) -> Result<Finding, Limit> {
     let mut numbers = [0i16; 384];
-    let count = text::put_numbers(values, &mut numbers);
-    route::test_route(file, map, text::first(&numbers, count))
+    let count = words::put_numbers(values, &mut numbers);
+    route::test_route(file, map, words::first(&numbers, count))
 }
 
 // Tests the route of the first of 128 points by value.
 fn ask_points(rt: &impl Print, values: &[u8], file: &[u8], map: &[u8]) -> io::Result<()> {
-    let (count, route) = text::parted(values, b',');
+    let (count, route) = words::parted(values, b',');
     let mut numbers = [0i16; 384];
-    text::put_numbers(route, &mut numbers);
+    words::put_numbers(route, &mut numbers);
     report::route(
         rt,
-        points::test_first_points(file, map, points_of(&numbers), text::number(count)),
+        points::test_first_points(file, map, points_of(&numbers), words::number(count)),
     )
 }
 
@@ -152,7 +152,7 @@ fn point_at(numbers: &[i16; 384], i: usize) -> Point
 
 // Puts pseudo-random bytes into the file from `at` on, as far as there is room, and answers where they end.
 fn put_noise(count: usize, file: &mut [u8], at: usize) -> usize {
-    let stop = text::stop(at, count, file.len());
+    let stop = words::stop(at, count, file.len());
     let mut state: u64 = 1;
     for i in at..stop {
         state = (state % 2147483648 * 1103515245 + 12345) % 2147483648;
@@ -185,7 +185,7 @@ fn digest(s: &[u8], factor: u64, modulus: u64) -> u64
 fn digest_routes(routes: &[u8], file: &[u8], map: &[u8]) -> u64 {
     let mut sum = 0;
     for part in routes.split_inclusive(|c| *c == b',') {
-        let (route, _) = text::parted(part, b',');
+        let (route, _) = words::parted(part, b',');
         sum = with_answer(sum, answer(route, file, map));
     }
     sum

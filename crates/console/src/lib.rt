@@ -5,6 +5,7 @@
 ghost use Rattle.std.specs.Prelude.{◌≡◌, ◌≢◌, ℕ, IfOk, IfErr, OnOk, MatchResult, ◌<◌, ◌≤◌, ◌⊎◌, length, take};
 ghost use Rattle.std.specs.Io.KnownBytes.{Appends, Consumes, IsAtEnd};
 ghost use Rattle.io.specs.Counts.{IsPrefixLen};
+ghost use Rattle.console.specs.Stops.{IsUnread};
 
 use refusal::{Limit, Refusal};
 use std::env::{Env, FillError};
@@ -52,8 +53,8 @@ impl Streams for HostRuntime {
 pub enum Stopped {
     // An argument is no number of its type.
     NoNumber,
-    // A read of standard input failed.
-    Unread,
+    // A read of standard input failed, behind so many bytes.
+    Unread(usize),
     // The input is too long.
     Long,
     // A write to standard output failed.
@@ -137,13 +138,13 @@ fn no_number(rt: &impl Streams, place: usize) -> Stopped
 // UNREAD: what came before is no input.
 pub fn read_input(rt: &impl Streams, buf: &mut [u8]) -> Result<usize, Stopped>
     ensures len { IfOk result (λ len. IsPrefixLen len buf.new) }
-    ensures why { IfErr result (λ why. why ≡ Stopped.Unread) }
+    ensures why { IfErr result (λ why. IsUnread why buf.new) }
 {
-    match read_full(&mut rt.input(), buf) {
-        Ok(len) => Ok(len),
-        Err(_) => {
-            say(rt, "UNREAD");
-            Err(Stopped::Unread)
+    match fill(&mut rt.input(), buf) {
+        (len, Ok(())) => Ok(len),
+        (len, Err(_)) => {
+            let _ = put(&mut rt.errors(), b"UNREAD\n");
+            Err(Stopped::Unread(len))
         }
     }
 }
@@ -151,11 +152,11 @@ pub fn read_input(rt: &impl Streams, buf: &mut [u8]) -> Result<usize, Stopped>
 // Reads standard input, which has to leave room in buf. Where it does not, it says LONG.
 pub fn read_limited_input(rt: &impl Streams, buf: &mut [u8]) -> Result<usize, Stopped>
     ensures len { IfOk result (λ len. IsPrefixLen len buf.new × (len < length buf.new)) }
-    ensures why { IfErr result (λ why. (why ≡ Stopped.Unread) ⊎ (why ≡ Stopped.Long)) }
+    ensures why { IfErr result (λ why. IsUnread why buf.new ⊎ (why ≡ Stopped.Long)) }
 {
     let len = read_input(rt, buf)?;
     if len == buf.len() {
-        say(rt, "LONG");
+        let _ = put(&mut rt.errors(), b"LONG\n");
         return Err(Stopped::Long);
     }
     Ok(len)
@@ -179,14 +180,16 @@ fn lose(rt: &impl Streams, kind: ErrorKind) -> Stopped
     if kind == ErrorKind::BrokenPipe {
         return Stopped::Gone;
     }
-    say(rt, "LOST");
+    let _ = put(&mut rt.errors(), b"LOST\n");
     Stopped::Lost
 }
 
 // Writes the line of a refusal, the first len bytes, to standard output, and says it to the command too.
-pub fn refuse(rt: &impl Streams, out: &[u8], len: usize) -> Result<(), Stopped> {
-    send(rt, out, len)?;
-    say_bytes(rt, out, len);
+pub fn refuse(rt: &impl Streams, line: &[u8], len: usize) -> Result<(), Stopped>
+    ensures { IfErr result (λ why. (why ≡ Stopped.Lost) ⊎ (why ≡ Stopped.Gone)) }
+{
+    send(rt, line, len)?;
+    say_bytes(rt, line, len);
     Ok(())
 }
 
@@ -212,7 +215,9 @@ pub fn send_frame(
         }
         Err(limit) => {
             let Refusal { number, place } = Refusal::from(limit);
-            say(rt, format_args!("REFUSED {number} {place}"));
+            let mut line = [0u8; 64];
+            let len = text::put_refused(&mut line, number as usize, place);
+            say_bytes(rt, &line, len);
         }
     }
     Ok(())
@@ -232,22 +237,35 @@ fn write<W: Write>(to: &mut W, out: &[u8], len: usize) -> io::Result<()> {
 }
 
 // Reads until the input ends or buf is full, and answers how many bytes there are. Where it leaves room, it has all of the
-// input: a read that fails is no end. The loop goes on by what each read gave, which no range counts.
+// input: a read that fails is no end.
 pub fn read_full<R: Read>(from: &mut R, buf: &mut [u8]) -> io::Result<usize>
     ensures in_bounds { IfOk result (λ len. IsPrefixLen len buf.new) }
     ensures bytes { MatchResult result (λ len. Consumes (R.remaining from.old) (R.remaining from.new) (take len buf.new))
         (λ _. (len : ℕ) × IsPrefixLen len buf.new × Consumes (R.remaining from.old) (R.remaining from.new) (take len buf.new)) }
     ensures end { IfOk result (λ len. len < length buf.new → IsAtEnd (R.remaining from.new)) }
 {
+    match fill(from, buf) {
+        (len, Ok(())) => Ok(len),
+        (_, Err(error)) => Err(error),
+    }
+}
+
+// Reads until the input ends, a read fails or buf is full. It answers how many bytes there are, and the error of a read that
+// failed. The loop goes on by what each read gave, which no range counts.
+fn fill<R: Read>(from: &mut R, buf: &mut [u8]) -> (usize, io::Result<()>)
+    ensures in_bounds { IsPrefixLen result.0 buf.new }
+    ensures bytes { Consumes (R.remaining from.old) (R.remaining from.new) (take result.0 buf.new) }
+    ensures end { IfOk result.1 (λ _. result.0 < length buf.new → IsAtEnd (R.remaining from.new)) }
+{
     let mut done: usize = 0;
     while done < buf.len() {
         match from.read(&mut buf[done..]) {
             Ok(0) => break,
             Ok(more) => done += more,
-            Err(error) => return Err(error),
+            Err(error) => return (done, Err(error)),
         }
     }
-    Ok(done)
+    (done, Ok(()))
 }
 
 // Writes all bytes. It ends at the first write that fails or takes nothing. It is no call of std's `write_all`, so that what

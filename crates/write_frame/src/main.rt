@@ -58,19 +58,27 @@ fn write(
     }
     let stated = numbers[7];
     let found = n - 8;
-    let line = last_line(text);
     if !is_counted(stated, found) {
-        console::say(rt, format_args!("COUNT {stated} {found} {line}"));
+        say_miscount(rt, stated, found, last_line(text));
         return Ok(());
     }
     if !is_ended(text) {
-        console::say(rt, format_args!("CUT {line}"));
+        console::say(rt, format_args!("CUT {}", last_line(text)));
         return Ok(());
     }
     let taken = n.min(numbers.len());
     let grid = frame_write::grid_from(numbers);
     let written = frame_write::write(grid, &numbers[8..taken], out);
     console::send_frame(rt, out, written)
+}
+
+// Says the count that the text states, how many numbers stand behind it, and where the text ends.
+fn say_miscount(rt: &impl Streams, stated: i32, found: usize, line: usize) {
+    let mut begun = [0u8; 32];
+    let word = text::put_word(&mut begun, 0, b"COUNT ");
+    let behind = text::put_numbers(&mut begun, word, &[stated]);
+    console::say_bytes(rt, &begun, behind);
+    console::say(rt, format_args!("{found} {line}"));
 }
 
 // Has a text an end behind its last word, a space or a line feed? Else its last number may have been cut off.

@@ -1,9 +1,9 @@
--- `read_full` keeps its invariant: what a read gives stands behind what was read before.
+-- `fill` keeps its invariant: what a read gives stands behind what was read before.
 use Rattle.std.proofs.Common.{rules, subst}
 use Rattle.std.specs.Io.KnownBytes.{Consumes}
 use Rattle.std.proofs.KnownBytes.{Consumes-trans}
 use Rattle.console.proofs.Parts.{front_and_put}
-use Rattle.console.proofs.read_full.Goals as goal
+use Rattle.console.proofs.fill.Goals as goal
 
 pub loop-done-preserved : goal.loop-done-preserved
 loop-done-preserved g c =

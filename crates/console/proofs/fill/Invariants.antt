@@ -1,7 +1,7 @@
--- `read_full` moves on with each read: what was read so far stands at the front of the buffer.
+-- `fill` moves on with each read: what was read so far stands at the front of the buffer.
 use Rattle.std.proofs.Common.{◌≡◌, ◌-◌, ◌≤◌, length, take}
 use Rattle.std.specs.Io.KnownBytes.{Consumes}
-use Rattle.console.proofs.read_full.Given as goal
+use Rattle.console.proofs.fill.Given as goal
 
 abbrev pub invariant-loop-done : goal.invariant-loop-done
 invariant-loop-done g l = (length l.buf ≡ length l.initial.buf) × (l.done ≤ length l.buf) × Consumes (g.R.Read.remaining l.initial.from) (g.R.Read.remaining l.from) (take l.done l.buf)
