@@ -52,7 +52,7 @@ fn show_records(rt: &impl Streams, frame: &Frame<'_>, out: &mut [u8]) -> Result<
     let mut at = 0;
     for i in 0..frame.header().count {
         let place = make_room(rt, out, at)?;
-        at = frame_text::put_record(out, place, frame.one_record(i));
+        at = frame_text::put_record(out, place, frame.record(i));
     }
     console::send(rt, out, at)
 }
